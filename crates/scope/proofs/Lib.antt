@@ -3,6 +3,10 @@ pub mod Tests
 pub mod Compute
 pub mod Tables
 pub mod Worked
+pub mod Further
+pub mod Bytes
+pub mod Answers
+pub mod Refusals
 pub mod Costs
 pub mod Steps
 pub mod Trailing

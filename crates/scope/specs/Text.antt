@@ -63,14 +63,27 @@ unfoldable pub look : Mode → Table → Ref → ℕ → Look
 look source table t c = lookByName (ctorAt table t c .name)
 look paste table t c = lookByKind (kind (typeAt table t)) c
 
--- a tail's text, if it is not "[]"
-abbrev pub unlessNil : Text → List Text
-unlessNil t = cond (same t nilName) [] (t ∷ [])
+-- is a row's first pattern the constructor "[]" of a list
+abbrev pub isNil : Table → Row → Bool
+isNil table [] = false
+isNil table (wild ∷ r) = false
+isNil table (lit l ∷ r) = false
+isNil table (con t c ∷ r) = eqb (kind (typeAt table t)) 3 && eqb c 1
 
--- the tail of a tail: the source's text keeps "[]" there, the paste text ends with a plain bracket
-abbrev pub tailIn : Mode → Text → List Text
-tailIn source t = t ∷ []
-tailIn paste t = unlessNil t
+-- a text, if the test does not leave it out
+abbrev pub textUnless : Bool → Text → List Text
+textUnless true t = []
+textUnless false t = t ∷ []
+
+-- the tail after a list's first element: the source's text leaves it out where its text is "[]", the paste text where it is "[]"
+abbrev pub afterFirst : Mode → Table → Row → Text → List Text
+afterFirst source table r t = textUnless (same t nilName) t
+afterFirst paste table r t = textUnless (isNil table r) t
+
+-- the tail after a further element: the source's text keeps "[]", the paste text ends with a plain bracket
+abbrev pub afterNext : Mode → Table → Row → Text → List Text
+afterNext source table r t = t ∷ []
+afterNext paste table r t = textUnless (isNil table r) t
 
 -- where a pattern's text is asked for: by itself, by `pretty`; or as the tail of a list, by `pretty_tail`
 pub data Place : Type 0 where
@@ -104,13 +117,13 @@ module _ (mode : Mode) (table : Table) (again : Place → Row → Text) where
   -- constructor c of type t, whose arguments begin the row
   abbrev pub prettyCtor : Look → Ref → ℕ → Row → Text
   prettyCtor round t c r = bytes "(" ++ commas (texts (arity table t c) r) ++ bytes ")"
-  prettyCtor square t c r = bytes "[" ++ commas (again alone r ∷ unlessNil (again inTail (skip table r 1))) ++ bytes "]"
+  prettyCtor square t c r = bytes "[" ++ commas (again alone r ∷ afterFirst mode table (skip table r 1) (again inTail (skip table r 1))) ++ bytes "]"
   prettyCtor spelled t c r = ctorAt table t c .name ++ argumentText (ctorAt table t c .labels) (arity table t c) r
 
   -- the same as the tail of a list: a further cell stands in the same brackets
   abbrev pub tailCtor : Look → Ref → ℕ → Row → Text
   tailCtor round t c r = prettyCtor round t c r
-  tailCtor square t c r = commas (again alone r ∷ tailIn mode (again inTail (skip table r 1)))
+  tailCtor square t c r = commas (again alone r ∷ afterNext mode table (skip table r 1) (again inTail (skip table r 1)))
   tailCtor spelled t c r = prettyCtor spelled t c r
 
   -- `pretty` and `pretty_tail`; no literal is ever missing

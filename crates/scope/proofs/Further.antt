@@ -1,0 +1,263 @@
+-- A second table: the smallest files that see what P1 to P10 do not, by computing. T is a data type with A and B.
+use mathlib.Core.List.{List, [], _∷_}
+use mathlib.Core.Path.{_≡_, refl}
+use Prim.Native.Nat.{ℕ, zero, suc}
+use Prim.Native.String.{String, _++_}
+use Rattle.scope.specs.Lists.{bytes}
+use Rattle.scope.specs.Lines.{lines}
+use Rattle.scope.specs.Blocks.{Parsed, parsed, faulty, blockOf}
+use Rattle.scope.specs.Report.{Findings, findings}
+use Rattle.scope.proofs.Compute.{compute}
+use Rattle.scope.proofs.Tables.{Example, AllRight, by-test}
+
+-- n times the same text
+abbrev pub repeated : ℕ → String → String
+repeated zero s = ""
+repeated (suc n) s = s ++ repeated n s
+
+-- refusals 3 to 11, the order of refusals within a line, limits from both sides, walks, both texts
+abbrev pub further : List Example
+further =
+    -- an empty file has no end, at line 1
+    record { file = ""; text = "refused 5 line 1\n" } ∷
+    -- a byte just above 9 is no digit
+    record { file = "0100\n030:\n05\n"; text = "refused 3 line 2\n" } ∷
+    -- a byte just above f is no digit
+    record { file = "0100\n030g\n05\n"; text = "refused 3 line 2\n" } ∷
+    -- hexadecimal is lower-case
+    record { file = "0100\n0300\n05\n0A\n"; text = "refused 3 line 4\n" } ∷
+    -- an odd line
+    record { file = "010302\n0100\n0106\n0201440000\n0301\n04030131\n0400\n04010162\n04030137\n04030130\n0403022d31\n0\n05\n"; text = "refused 3 line 12\n" } ∷
+    -- an empty line
+    record { file = "0100\n0300\n05\n\n\n"; text = "refused 3 line 4\n" } ∷
+    -- a last line without line feed
+    record { file = "0100\n0300\n05\n05"; text = "refused 3 line 4\n" } ∷
+    -- a line feed alone ends a line
+    record { file = "0100\n0300\n05\r\n"; text = "refused 3 line 3\n" } ∷
+    -- 1,280 digits stand: the frame is short
+    record { file = "0100\n01050000\n0301\n04" ++ repeated 639 "07" ++ "\n05\n"; text = "refused 4 line 4\n" } ∷
+    -- 1,282 digits do not stand
+    record { file = "0100\n01050000\n0301\n04" ++ repeated 640 "07" ++ "\n05\n"; text = "refused 3 line 4\n" } ∷
+    -- a clause before the subject
+    record { file = "0100\n0400\n0300\n05\n"; text = "refused 5 line 2\n" } ∷
+    -- a second subject
+    record { file = "0100\n0300\n0300\n05\n"; text = "refused 5 line 3\n" } ∷
+    -- a type after the subject
+    record { file = "0100\n0300\n0100\n05\n"; text = "refused 5 line 3\n" } ∷
+    -- no end after a clause
+    record { file = "0100\n0300\n0400\n"; text = "refused 5 line 4\n" } ∷
+    -- a second end
+    record { file = "0100\n0300\n05\n05\n"; text = "refused 5 line 4\n" } ∷
+    -- after the end, unknown before out of place
+    record { file = "0100\n0300\n05\n00\n"; text = "refused 4 line 4\n" } ∷
+    -- out of place before short
+    record { file = "02\n"; text = "refused 5 line 1\n" } ∷
+    -- a constructor needs a data type just above; out of place before short
+    record { file = "0100\n02\n"; text = "refused 5 line 2\n" } ∷
+    -- no end before a bad reference
+    record { file = "010301\n"; text = "refused 5 line 2\n" } ∷
+    -- an unknown kind of frame
+    record { file = "0100\n0300\nff00\n05\n"; text = "refused 4 line 3\n" } ∷
+    -- an unknown kind of type
+    record { file = "010b\n"; text = "refused 4 line 1\n" } ∷
+    -- bytes short
+    record { file = "01\n"; text = "refused 4 line 1\n" } ∷
+    -- bytes over
+    record { file = "0100\n0300\n0500\n"; text = "refused 4 line 3\n" } ∷
+    -- a pattern too many
+    record { file = "0100\n0300\n040000\n05\n"; text = "refused 4 line 3\n" } ∷
+    -- a tuple of 1
+    record { file = "0100\n01040100\n0301\n04080100\n05\n"; text = "refused 4 line 2\n" } ∷
+    -- a tuple of 2
+    record { file = "0100\n0104020000\n0301\n0408020000\n05\n"; text = "clauses 1 reached 1 never 0\nclause 1 reached\ngaps 0\ncalls 1 4\n" } ∷
+    -- a tuple of 16
+    record { file = "0100\n01041000000000000000000000000000000000\n0301\n04081000000000000000000000000000000000\n05\n"; text = "clauses 1 reached 1 never 0\nclause 1 reached\ngaps 0\ncalls 1 18\n" } ∷
+    -- a tuple of 17
+    record { file = "0100\n0104110000000000000000000000000000000000\n0301\n0408110000000000000000000000000000000000\n05\n"; text = "refused 4 line 2\n" } ∷
+    -- arity 16; spread with all arguments
+    record { file = "0100\n0106\n020141001000000000000000000000000000000000\n0301\n040600100100000000000000000000000000000000\n05\n"; text = "clauses 1 reached 1 never 0\nclause 1 reached\ngaps 0\ncalls 1 18\n" } ∷
+    -- arity 17
+    record { file = "0100\n0106\n02014100110000000000000000000000000000000000\n0301\n0406001100" ++ repeated 17 "030131" ++ "\n05\n"; text = "refused 4 line 3\n" } ∷
+    -- labels with arity 0
+    record { file = "0106\n0201410100\n0300\n05\n"; text = "refused 4 line 2\n" } ∷
+    -- a flag that is not 00 or 01
+    record { file = "0100\n010300\n0301\n04050002\n05\n"; text = "refused 4 line 4\n" } ∷
+    -- a name of no bytes
+    record { file = "0100\n0300\n040100\n05\n"; text = "refused 4 line 3\n" } ∷
+    -- a name of 32 bytes
+    record { file = "0100\n0300\n040120" ++ repeated 32 "61" ++ "\n05\n"; text = "clauses 1 reached 1 never 0\nclause 1 reached\ngaps 0\ncalls 1 2\n" } ∷
+    -- a name of 33 bytes
+    record { file = "0100\n0300\n040121" ++ repeated 33 "61" ++ "\n05\n"; text = "refused 4 line 3\n" } ∷
+    -- a variable begins with a to z
+    record { file = "0100\n0300\n0401015f\n05\n"; text = "refused 4 line 3\n" } ∷
+    -- then a to z, digits or underscore
+    record { file = "0100\n0300\n04010461305f7a\n05\n"; text = "clauses 1 reached 1 never 0\nclause 1 reached\ngaps 0\ncalls 1 2\n" } ∷
+    -- and no other byte
+    record { file = "0100\n0300\n040102617b\n05\n"; text = "refused 4 line 3\n" } ∷
+    -- a label has no upper-case letter
+    record { file = "0100\n0106\n020141010100026141\n0300\n05\n"; text = "refused 4 line 3\n" } ∷
+    -- a constructor has letters, digits and underscore
+    record { file = "0106\n02054161305f5a0000\n0300\n05\n"; text = "clauses 0 reached 0 never 0\ngaps 1\nmissing _\npaste _\ncalls 0 1\n" } ∷
+    -- and no other byte
+    record { file = "0106\n020241600000\n0300\n05\n"; text = "refused 4 line 2\n" } ∷
+    -- 0 is decimal
+    record { file = "0100\n0300\n04030130\n05\n"; text = "clauses 1 reached 1 never 0\nclause 1 reached\ngaps 1\nmissing _\npaste _\ncalls 1 2\n" } ∷
+    -- 10 is decimal
+    record { file = "0100\n0300\n0403023130\n05\n"; text = "clauses 1 reached 1 never 0\nclause 1 reached\ngaps 1\nmissing _\npaste _\ncalls 1 2\n" } ∷
+    -- 00 is not
+    record { file = "0100\n0300\n0403023030\n05\n"; text = "refused 4 line 3\n" } ∷
+    -- -0 is not, and this comes before its type
+    record { file = "0101\n0300\n0403022d30\n05\n"; text = "refused 4 line 3\n" } ∷
+    -- 7- is not
+    record { file = "0100\n0300\n040302372d\n05\n"; text = "refused 4 line 3\n" } ∷
+    -- 64 digits
+    record { file = "0100\n0300\n04034031" ++ repeated 63 "30" ++ "\n05\n"; text = "clauses 1 reached 1 never 0\nclause 1 reached\ngaps 1\nmissing _\npaste _\ncalls 1 2\n" } ∷
+    -- 65 digits
+    record { file = "0100\n0300\n040341" ++ repeated 65 "31" ++ "\n05\n"; text = "refused 4 line 3\n" } ∷
+    -- 64 types; the last refers to the first
+    record { file = repeated 63 "0100\n" ++ "010300\n033f\n04050000\n05\n"; text = "clauses 1 reached 1 never 0\nclause 1 reached\ngaps 1\nmissing [_, ..]\npaste [_, ..]\ncalls 1 2\n" } ∷
+    -- 65 types, before short
+    record { file = repeated 64 "0100\n" ++ "01\n"; text = "refused 6 line 65\n" } ∷
+    -- out of place before over the limit
+    record { file = repeated 64 "0100\n" ++ "0300\n0100\n"; text = "refused 5 line 66\n" } ∷
+    -- 32 constructors in a type: the last is short
+    record { file = "0106\n020243300000\n020243310000\n020243320000\n020243330000\n020243340000\n020243350000\n020243360000\n020243370000\n020243380000\n020243390000\n02034331300000\n02034331310000\n02034331320000\n02034331330000\n02034331340000\n02034331350000\n02034331360000\n02034331370000\n02034331380000\n02034331390000\n02034332300000\n02034332310000\n02034332320000\n02034332330000\n02034332340000\n02034332350000\n02034332360000\n02034332370000\n02034332380000\n02034332390000\n02034333300000\n02\n"; text = "refused 4 line 33\n" } ∷
+    -- 33 constructors in a type
+    record { file = "0106\n020243300000\n020243310000\n020243320000\n020243330000\n020243340000\n020243350000\n020243360000\n020243370000\n020243380000\n020243390000\n02034331300000\n02034331310000\n02034331320000\n02034331330000\n02034331340000\n02034331350000\n02034331360000\n02034331370000\n02034331380000\n02034331390000\n02034332300000\n02034332310000\n02034332320000\n02034332330000\n02034332340000\n02034332350000\n02034332360000\n02034332370000\n02034332380000\n02034332390000\n02034333300000\n02034333310000\n02034333320000\n0300\n05\n"; text = "refused 6 line 34\n" } ∷
+    -- 64 clauses: the last is short
+    record { file = "0100\n0300\n" ++ repeated 63 "0400\n" ++ "04\n"; text = "refused 4 line 66\n" } ∷
+    -- 65 clauses, before unsuited
+    record { file = "0100\n0300\n" ++ repeated 64 "0400\n" ++ "04070000\n"; text = "refused 6 line 67\n" } ∷
+    -- a constructor name twice
+    record { file = "0106\n0201410000\n0201410000\n0300\n05\n"; text = "refused 7 line 3\n" } ∷
+    -- a name that begins with another is another name
+    record { file = "0106\n0201410000\n020241410000\n0300\n05\n"; text = "clauses 0 reached 0 never 0\ngaps 1\nmissing _\npaste _\ncalls 0 1\n" } ∷
+    -- a label twice
+    record { file = "0100\n0106\n0201410102000161000161\n0301\n05\n"; text = "refused 7 line 3\n" } ∷
+    -- short before a repeated name
+    record { file = "0106\n0201410000\n02014100\n"; text = "refused 4 line 3\n" } ∷
+    -- a repeated name in line 4 before a bad reference in line 1
+    record { file = "010309\n0106\n0201410000\n0201410000\n0300\n05\n"; text = "refused 7 line 4\n" } ∷
+    -- a reference to no type, at the subject's line
+    record { file = "0103ff\n0300\n05\n"; text = "refused 7 line 2\n" } ∷
+    -- a reference to no type in a field
+    record { file = "0106\n020141000101\n0300\n05\n"; text = "refused 7 line 3\n" } ∷
+    -- the same in a type that the subject does not reach
+    record { file = "0100\n010305\n0300\n05\n"; text = "refused 7 line 3\n" } ∷
+    -- the subject refers to no type
+    record { file = "0100\n0301\n05\n"; text = "refused 7 line 2\n" } ∷
+    -- no types at all is no fault by itself: the reference is
+    record { file = "0300\n05\n"; text = "refused 7 line 1\n" } ∷
+    -- short before a bad table
+    record { file = "010301\n03\n"; text = "refused 4 line 2\n" } ∷
+    -- a reference may point forward
+    record { file = "010301\n0100\n0300\n05\n"; text = "clauses 0 reached 0 never 0\ngaps 1\nmissing _\npaste _\ncalls 0 1\n" } ∷
+    -- a data type without constructors has no value, reached or not
+    record { file = "0100\n0106\n0300\n05\n"; text = "refused 7 line 3\n" } ∷
+    -- a data type that needs itself has no value
+    record { file = "0106\n020141000100\n0300\n05\n"; text = "refused 7 line 3\n" } ∷
+    -- a pair that holds itself has none
+    record { file = "01050000\n0300\n05\n"; text = "refused 7 line 2\n" } ∷
+    -- a tuple that holds itself has none
+    record { file = "0100\n0104020001\n0300\n05\n"; text = "refused 7 line 3\n" } ∷
+    -- an integer at a byte string
+    record { file = "0101\n0300\n04030131\n05\n"; text = "refused 8 line 3\n" } ∷
+    -- an opaque type has only discards and variables
+    record { file = "0102\n0300\n04030131\n05\n"; text = "refused 8 line 3\n" } ∷
+    -- an assign and a variable suit it
+    record { file = "0102\n0300\n04020178010179\n05\n"; text = "clauses 1 reached 1 never 0\nclause 1 reached\ngaps 0\ncalls 1 2\n" } ∷
+    -- a pair at a tuple
+    record { file = "0100\n0104020000\n0301\n04070000\n05\n"; text = "refused 8 line 4\n" } ∷
+    -- a tuple at a pair
+    record { file = "0100\n01050000\n0301\n0408020000\n05\n"; text = "refused 8 line 4\n" } ∷
+    -- a tuple pattern of 0 is not short
+    record { file = "0100\n01050000\n0301\n040800\n05\n"; text = "refused 8 line 4\n" } ∷
+    -- a tuple without its full count
+    record { file = "0100\n01041000000000000000000000000000000000\n0301\n04080f000000000000000000000000000000\n05\n"; text = "refused 8 line 4\n" } ∷
+    -- no such constructor
+    record { file = "0106\n0201410000\n0201420000\n0300\n0406020000\n05\n"; text = "refused 8 line 5\n" } ∷
+    -- one argument short without spread
+    record { file = "0100\n0106\n020141000100\n0301\n0406000000\n05\n"; text = "refused 8 line 5\n" } ∷
+    -- spread with an argument too many
+    record { file = "0101\n010300\n0106\n02044e6f6e650000\n020d505f5f5475705f5f5475706c650000\n0100\n010304\n0302\n040601010100\n0406010000\n0406010000\n05\n"; text = "refused 8 line 9\n" } ∷
+    -- spread fills with wildcards
+    record { file = "0100\n0106\n0201410003000000\n0301\n0406000101030131\n05\n"; text = "clauses 1 reached 1 never 0\nclause 1 reached\ngaps 1\nmissing A(_, _, _)\npaste A(_, _, _)\ncalls 1 3\n" } ∷
+    -- the first faulty line decides
+    record { file = "0100\n0300\n040400\n04\n05\n"; text = "refused 8 line 3\n" } ∷
+    -- short later in the line before unsuited early in it
+    record { file = "0100\n01050000\n0301\n04070400\n05\n"; text = "refused 4 line 4\n" } ∷
+    -- 4,096 stand and the next is over
+    record { file = "010302\n0100\n0106\n020141001001010101010101010101010101010101\n0300\n04053c00" ++ repeated 60 "06000001" ++ "\n04053c00" ++ repeated 60 "06000001" ++ "\n04053c00" ++ repeated 60 "06000001" ++ "\n0405ff" ++ repeated 256 "00" ++ "\n0405aa" ++ repeated 171 "00" ++ "\n0400\n0400\n05\n"; text = "refused 9 line 12\n" } ∷
+    -- unsuited before over
+    record { file = "010302\n0100\n0106\n020141001001010101010101010101010101010101\n0300\n04053c00" ++ repeated 60 "06000001" ++ "\n04053c00" ++ repeated 60 "06000001" ++ "\n04053c00" ++ repeated 60 "06000001" ++ "\n0405ff" ++ repeated 256 "00" ++ "\n0405aa" ++ repeated 171 "00" ++ "\n0400\n04030133\n05\n"; text = "refused 8 line 12\n" } ∷
+    -- over 4,096 constructors and wildcards in the missing rows
+    record { file = "0106\n02024330000101\n02024331000101\n02024332000101\n02024333000101\n02024334000101\n02024335000101\n02024336000101\n02024337000101\n02024338000101\n02024339000101\n0203433130000101\n0203433131000101\n0203433132000101\n0203433133000101\n0203433134000101\n0203433135000101\n0203433136000101\n0203433137000101\n0203433138000101\n0203433139000101\n0203433230000101\n0203433231000101\n0203433232000101\n0203433233000101\n0203433234000101\n0203433235000101\n0203433236000101\n0203433237000101\n0203433238000101\n0203433239000101\n0203433330000101\n02015a0000\n0100\n01050000\n0302\n0407061f000000\n040700061f0000\n05\n"; text = "refused 10 line 0\n" } ∷
+    -- a report longer than its buffer
+    record { file = "0106\n020243300000\n020243310000\n020243320000\n020243330000\n020243340000\n020243350000\n020243360000\n020243370000\n020243380000\n020243390000\n02034331300000\n02034331310000\n02034331320000\n02034331330000\n02034331340000\n02034331350000\n02034331360000\n02034331370000\n02034331380000\n02034331390000\n02034332300000\n02034332310000\n02034332320000\n02034332330000\n02034332340000\n02034332350000\n02034332360000\n02034332370000\n02034332380000\n02034332390000\n02034333300000\n02015a0000\n0100\n01050000\n0302\n0407061f000000\n040700061f0000\n05\n"; text = "refused 11 line 0\n" } ∷
+    -- over 16,384 cells, first kind
+    record { file = "010302\n0100\n0106\n020141000d01010101010101010101010101\n0300\n0405a8" ++ repeated 68 "01060000" ++ "01" ++ repeated 100 "00" ++ "05ff" ++ repeated 256 "00" ++ "\n0405a8" ++ repeated 68 "01060000" ++ "01" ++ repeated 100 "00" ++ "05ff" ++ repeated 256 "00" ++ "\n05\n"; text = "refused 10 line 0\n" } ∷
+    -- over 16,384 cells, second kind
+    record { file = "0100\n01040d00000000000000000000000000\n01040b0100000000000000000000\n010406000000020000\n01040f000003000000000000000000000000\n010409040000000000000000\n01040a05000000000000000000\n01040b0000060000000000000000\n01040e0007000000000000000000000000\n01040708000000000000\n01041000000009000000000000000000000000\n010407000a0000000000\n01040e00000b0000000000000000000000\n01040d0c000000000000000000000000\n0104020d00\n0104060e0000000000\n0104100000000f000000000000000000000000\n010406000010000000\n01040711000000000000\n0104020012\n010406130000000000\n0104080000001400000000\n01040715000000000000\n0316\n04080708080000000806080200080708060000081000000008060802080d080e000008070008100000000807080e00080b0000080a0809080f00000806000000080b080d" ++ repeated 162 "00" ++ "\n05\n"; text = "refused 10 line 0\n" } ∷
+    -- a pair of A, B or C: where some are unseen the first column varies fastest
+    record { file = "0106\n0201410000\n0201420000\n0201430000\n01050000\n0301\n04070600000000\n04070006000000\n05\n"; text = "clauses 2 reached 2 never 0\nclause 1 reached\nclause 2 reached\ngaps 4\nmissing (B, B)\npaste (B, B)\nmissing (C, B)\npaste (C, B)\nmissing (B, C)\npaste (B, C)\nmissing (C, C)\npaste (C, C)\ncalls 4 4\n" } ∷
+    -- byte strings are told apart by their bytes
+    record { file = "0101\n0300\n040400\n04040100\n0404020000\n04040100\n05\n"; text = "clauses 4 reached 3 never 1\nclause 1 reached\nclause 2 reached\nclause 3 reached\nclause 4 never\ngaps 1\nmissing _\npaste _\ncalls 7 2\n" } ∷
+    -- [] is dropped as the tail of one element
+    record { file = "0106\n0201410000\n0201420000\n010300\n010301\n0301\n04050000\n0405010006000000\n04050201000000\n05\n"; text = "clauses 3 reached 3 never 0\nclause 1 reached\nclause 2 reached\nclause 3 reached\ngaps 1\nmissing [B]\npaste [B]\ncalls 6 5\n" } ∷
+    -- [] is kept as any other tail
+    record { file = "010301\n0106\n020251390000\n0201430102010161000177\n0100\n0300\n040501010101780502010600000101017802017a00\n04050201060000000601020000050101010f7a61397a62396130393939625f61610002017900\n04050301060000010601020000050000010161010163\n040502010600000106010200010162050000050000\n04050101060102000600000100050101060102000101630001017a\n04050001050201060102000601020000000101620201790601000100\n0405010006000001\n0402017a05000105010000\n04050000\n05\n"; text = "clauses 9 reached 9 never 0\nclause 1 reached\nclause 2 reached\nclause 3 reached\nclause 4 reached\nclause 5 reached\nclause 6 reached\nclause 7 reached\nclause 8 reached\nclause 9 reached\ngaps 3\nmissing [Q9, Q9, []]\npaste [Q9, Q9]\nmissing [C { a: Q9, w }, Q9, []]\npaste [C { a: Q9, w }, Q9]\nmissing [C { a: C { a, w }, w }, Q9, []]\npaste [C { a: C { a, w }, w }, Q9]\ncalls 51 42\n" } ∷
+    -- [] as an element
+    record { file = "0106\n0201410000\n0201420000\n010300\n010301\n0302\n04050000\n04050101050101000000\n05\n"; text = "clauses 2 reached 2 never 0\nclause 1 reached\nclause 2 reached\ngaps 1\nmissing [[], ..]\npaste [[], ..]\ncalls 3 4\n" } ∷
+    -- [] as the last element: the paste text leaves out only the "[]" that closes the list
+    record { file = "0100\n010300\n010301\n0302\n04050000\n0405010000\n0405030100000000\n04050200050101000000\n04050200000501010000\n05\n"; text = "clauses 5 reached 5 never 0\nclause 1 reached\nclause 2 reached\nclause 3 reached\nclause 4 reached\nclause 5 reached\ngaps 1\nmissing [[], [], []]\npaste [[], []]\ncalls 23 8\n" } ∷
+    -- a list as the tail of a list: its elements go on
+    record { file = "0100\n010300\n0301\n04050000\n040501010005010103013300\n040502010003013300\n05\n"; text = "clauses 3 reached 2 never 1\nclause 1 reached\nclause 2 reached\nclause 3 never\ngaps 1\nmissing [_]\npaste [_]\ncalls 9 5\n" } ∷
+    -- the empty list as a tail closes it
+    record { file = "0100\n010300\n0301\n04050000\n0405010100050000\n0405010000\n05\n"; text = "clauses 3 reached 2 never 1\nclause 1 reached\nclause 2 reached\nclause 3 never\ngaps 1\nmissing [_, _, ..]\npaste [_, _, ..]\ncalls 7 5\n" } ∷
+    -- a list of itself: brackets nest
+    record { file = "010300\n0300\n04050000\n0405010105000000\n0405010105010005000000\n04050101050101050000000501010000\n0405010005010005010005010000\n05\n"; text = "clauses 5 reached 5 never 0\nclause 1 reached\nclause 2 reached\nclause 3 reached\nclause 4 reached\nclause 5 reached\ngaps 2\nmissing [[[[], ..], ..], ..]\npaste [[[[], ..], ..], ..]\nmissing [[[], _, ..]]\npaste [[[], _, ..]]\ncalls 15 11\n" } ∷
+    -- a name that holds __Tuple prints as a tuple; the paste text keeps the name
+    record { file = "0106\n0201410000\n0201420000\n0106\n02014e0000\n02094d795f5f5475706c650000\n0301\n0406000000\n05\n"; text = "clauses 1 reached 1 never 0\nclause 1 reached\ngaps 1\nmissing ()\npaste My__Tuple\ncalls 1 2\n" } ∷
+    -- the same with labels
+    record { file = "0106\n0201410000\n0201420000\n0106\n02014e0000\n02094d795f5f5475706c650102000161000162\n0301\n0406000000\n05\n"; text = "clauses 1 reached 1 never 0\nclause 1 reached\ngaps 1\nmissing (_, _)\npaste My__Tuple { a, b }\ncalls 1 2\n" } ∷
+    -- the same inside a pair
+    record { file = "0106\n0201410000\n0201420000\n0106\n02014e0000\n02094d795f5f5475706c650102000161000162\n01050100\n0302\n040706010200060000000006000000\n040706010200060100000600000000\n04070600000000\n05\n"; text = "clauses 3 reached 3 never 0\nclause 1 reached\nclause 2 reached\nclause 3 reached\ngaps 2\nmissing ((A, _), B)\npaste (My__Tuple { a: A, b }, B)\nmissing ((B, B), _)\npaste (My__Tuple { a: B, b: B }, _)\ncalls 8 10\n" } ∷
+    -- names that hold it anywhere, and names that do not: A__tuple
+    record { file = "0106\n0201410000\n02094d795f5f5475706c650000\n020251390000\n0208415f5f5475706c650000\n0208415f5f7475706c650000\n020a545f5f5475706c65735f0000\n02055475706c650000\n01050000\n0301\n0407010d62613162615f6239395f627a3906020001\n040701017806060001\n05\n"; text = "clauses 2 reached 2 never 0\nclause 1 reached\nclause 2 reached\ngaps 5\nmissing (_, A)\npaste (_, A)\nmissing (_, ())\npaste (_, My__Tuple)\nmissing (_, ())\npaste (_, A__Tuple)\nmissing (_, A__tuple)\npaste (_, A__tuple)\nmissing (_, ())\npaste (_, T__Tuples_)\ncalls 5 4\n" } ∷
+    -- unseen constructors in declared order, not by name; spread
+    record { file = "0106\n0208415f5f7475706c650000\n0201440101000166\n0204536f6d650000\n020142000400010101\n0204426c7565000101\n0100\n0300\n0406000001\n0406020001\n040201630604010000\n05\n"; text = "clauses 3 reached 3 never 0\nclause 1 reached\nclause 2 reached\nclause 3 reached\ngaps 2\nmissing D { f }\npaste D { f }\nmissing B(_, _, _, _)\npaste B(_, _, _, _)\ncalls 5 2\n" } ∷
+    -- a label alone for a wildcard
+    record { file = "0100\n0106\n0201410101000161\n0301\n0406000100030131\n05\n"; text = "clauses 1 reached 1 never 0\nclause 1 reached\ngaps 1\nmissing A { a }\npaste A { a }\ncalls 1 3\n" } ∷
+    -- a full column of lists: constructors are tried up to the first yes
+    record { file = "01050303\n010303\n0106\n020251390000\n0102\n0301\n040501010000\n0405030100000000\n0405010000\n04050000\n05\n"; text = "clauses 4 reached 2 never 2\nclause 1 reached\nclause 2 never\nclause 3 never\nclause 4 reached\ngaps 0\ncalls 15 8\n" } ∷
+    []
+
+pub further-right : AllRight further
+unfolding compute
+further-right = by-test further refl
+
+-- the most cells that open calls of the first and of the second kind hold for a file
+unfoldable pub cellsHeld : String → List ℕ
+cellsHeld file = on (blockOf (lines (bytes file)))
+  where
+    peaks : Findings → List ℕ
+    peaks f = f .reached .peak ∷ f .missing .peak ∷ []
+
+    on : Parsed → List ℕ
+    on (parsed b) = peaks (findings b)
+    on (faulty n k) = []
+
+-- P1: a call of the second kind on no rows holds none
+pub held-P1 : cellsHeld "0100\n0300\n05\n" ≡ 0 ∷ 0 ∷ []
+unfolding compute cellsHeld
+held-P1 = refl
+
+-- P5: each call of the first kind holds its new row too; open calls add up
+pub held-P5 : cellsHeld "0106\n0201410000\n0201420000\n01050000\n0301\n04070006000000\n04070600000006000000\n05\n" ≡ 8 ∷ 7 ∷ []
+unfolding compute cellsHeld
+held-P5 = refl
+
+-- P7: of the calls that are not open at one time the greatest sum counts
+pub held-P7 : cellsHeld "0100\n010300\n0301\n04050000\n0405010000\n0405030100000000\n05\n" ≡ 11 ∷ 12 ∷ []
+unfolding compute cellsHeld
+held-P7 = refl
