@@ -1,7 +1,7 @@
 -- The branches of the answer, one law each: what a code's branch cites.
 use mathlib.Core.Path.{_≡_, refl, ap}
 use mathlib.Core.List.{List, _++_}
-use mathlib.Core.Bool.{Bool, true, false, _&&_, _||_}
+use mathlib.Core.Bool.{true, false, _&&_, _||_}
 use Prim.Native.Nat.{ℕ, _≤_, _<_}
 use lib.Dec.{ltb}
 use lib.ListN.{length, drop, getD, length-replicate, getD-replicate}
@@ -13,7 +13,7 @@ use Rattle.scope.specs.Types.{lastDeclared}
 use Rattle.scope.specs.Blocks.{Block, ctorCount, nodesIn, hasRoom, line, Parsed, parsed, faulty, blockOf}
 use Rattle.scope.specs.Report.{Findings, findings, tooMuch, report}
 use Rattle.scope.specs.Answer.{said, Outcome, refused, fitted, walked, judgedIn, outcome, answer, reportText, bufferAfter, scratchAfter}
-use Rattle.scope.proofs.Tests.{clash}
+use Rattle.scope.proofs.Tests.{neither}
 
 -- 6: whether there is room for one more frame
 pub room-types : (b : Block) → hasRoom b 1 ≡ ltb (length (b .table)) 64
@@ -44,11 +44,6 @@ pub record WithinLimits (f : Findings) : Type 0 where
   pub firstCells : f .reached .peak ≤ 16384
   pub secondCells : f .missing .peak ≤ 16384
   pub missingNodes : nodesIn (f .missing .result) ≤ 4096
-
--- neither test passes
-neither : (a b : Bool) → (a || b) ≡ false → (a ≡ false) × (b ≡ false)
-neither true b h = clash (cc)
-neither false b h = (refl, h)
 
 pub within-limits : (f : Findings) → WithinLimits f → tooMuch f ≡ false
 unfolding tooMuch

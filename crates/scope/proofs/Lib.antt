@@ -13,3 +13,14 @@ pub mod Trailing
 pub mod Texts
 pub mod Reading
 pub mod Typing
+pub mod Decimals
+pub mod Fitting
+pub mod Columns
+pub mod Usefulness
+pub mod Gaps
+pub mod Once
+pub mod Finite
+pub mod Literals
+pub mod Simplified
+pub mod Parsing
+pub mod Promised

@@ -80,15 +80,15 @@ small-shrinks : Shrinks smallName
 unfolding smallName
 small-shrinks = name-shrinks _ _
 
--- every reader of a list shrinks
-abbrev Every : {A : Type 0} → (A → Type 0) → List A → Type 0
+-- something holds of everything in a list, and so of what stands at a place, or past the end
+abbrev pub Every : {A : Type 0} → (A → Type 0) → List A → Type 0
 Every p [] = Unit {0}
 Every p (x ∷ xs) = p x × Every p xs
 
-at-shrinks : {A : Type 0} (rs : List (Reader A)) (other : Reader A) → Every Shrinks rs → Shrinks other → (k : ℕ) → Shrinks (getD rs k other)
-at-shrinks [] other e h k = h
-at-shrinks (r ∷ rs) other e h zero = e .0
-at-shrinks (r ∷ rs) other e h (suc k) = at-shrinks rs other (e .1) h k
+pub every-at : {A : Type 0} (P : A → Type 0) (xs : List A) (other : A) → Every P xs → P other → (k : ℕ) → P (getD xs k other)
+every-at P [] other e h k = h
+every-at P (x ∷ xs) other e h zero = e .0
+every-at P (x ∷ xs) other e h (suc k) = every-at P xs other (e .1) h k
 
 fault-shrinks : {A : Type 0} (at : List ℕ) → Shrinks {A = A} (λ rest. fault at)
 fault-shrinks at = record { at = λ bs. tt }
@@ -96,7 +96,7 @@ fault-shrinks at = record { at = λ bs. tt }
 -- a reader that is chosen by a byte takes that byte
 choosing-under : {A : Type 0} (rs : List (Reader A)) → Every Shrinks rs → (bs : List ℕ) → Under (choosing rs bs) (length bs)
 choosing-under rs e [] = tt
-choosing-under rs e (b ∷ bs) = at-shrinks rs (λ rest. fault (b ∷ bs)) e (fault-shrinks (b ∷ bs)) b .at bs
+choosing-under rs e (b ∷ bs) = every-at Shrinks rs (λ rest. fault (b ∷ bs)) e (fault-shrinks (b ∷ bs)) b .at bs
 
 kinds-shrink : Every Shrinks patternKinds
 kinds-shrink = (give-shrinks _, (named _, (named _, (texted 1 isDecimal number, (texted 0 (λ t. true) string, (aList, (aCtor, (give-shrinks _, (aTuple, tt)))))))))

@@ -155,12 +155,12 @@ refused-keeps file cells buffer n k e = go (outcome file cells (length buffer)) 
     go o (refuses m j h) i = refl
 
 -- the first L bytes of the report buffer hold the report and the rest are unchanged
-pub record Reported (file : List ℕ) (cells : ℕ) (buffer : List ℕ) (n : ℕ) : Type 0 where
+pub record Filled (file : List ℕ) (cells : ℕ) (buffer : List ℕ) (n : ℕ) : Type 0 where
   pub long : n ≡ length (reportText file cells (length buffer))
   pub fit : n ≤ length buffer
   pub holds : bufferAfter file cells buffer ≡ reportText file cells (length buffer) ++ drop n buffer
 
-pub report-fills : (file : List ℕ) (cells : ℕ) (buffer : List ℕ) (n : ℕ) → answer file cells (length buffer) ≡ Report n → Reported file cells buffer n
+pub report-fills : (file : List ℕ) (cells : ℕ) (buffer : List ℕ) (n : ℕ) → answer file cells (length buffer) ≡ Report n → Filled file cells buffer n
 unfolding answer bufferAfter reportText
 report-fills file cells buffer n e =
     let p = go (outcome file cells (length buffer)) (kept file cells (length buffer)) e in
