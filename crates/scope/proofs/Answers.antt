@@ -45,10 +45,6 @@ pub record WithinLimits (f : Findings) : Type 0 where
   pub secondCells : f .missing .peak ≤ 16384
   pub missingNodes : nodesIn (f .missing .result) ≤ 4096
 
-pub within-limits : (f : Findings) → WithinLimits f → tooMuch f ≡ false
-unfolding tooMuch
-within-limits f w = rw (le-ltb 65536 (f .reached .calls) (w .firstCalls), le-ltb 65536 (f .missing .calls) (w .secondCalls), le-ltb 16384 (f .reached .peak) (w .firstCells), le-ltb 16384 (f .missing .peak) (w .secondCells), le-ltb 4096 (nodesIn (f .missing .result)) (w .missingNodes))
-
 pub not-too-much : (f : Findings) → tooMuch f ≡ false → WithinLimits f
 unfolding tooMuch
 not-too-much f h =
@@ -68,6 +64,10 @@ not-too-much f h =
       secondCells = ltb-false 16384 (f .missing .peak) (r .1);
       missingNodes = ltb-false 4096 (nodesIn (f .missing .result)) (s .1);
     }
+
+pub within-limits : (f : Findings) → WithinLimits f → tooMuch f ≡ false
+unfolding tooMuch
+within-limits f w = rw (le-ltb 65536 (f .reached .calls) (w .firstCalls), le-ltb 65536 (f .missing .calls) (w .secondCalls), le-ltb 16384 (f .reached .peak) (w .firstCells), le-ltb 16384 (f .missing .peak) (w .secondCells), le-ltb 4096 (nodesIn (f .missing .result)) (w .missingNodes))
 
 -- Order: 1, 2, then line by line
 pub outcome-1 : (file : List ℕ) (cells room : ℕ) → cells < 16384 → outcome file cells room ≡ refused 1 0

@@ -23,6 +23,10 @@ pub among-true : (lo hi b : ℕ) → among lo hi b ≡ true → (lo ≤ b) × (b
 among-true lo hi b h = let p = both (leb lo b) (leb b hi) h in (leb-true lo b (p .0), leb-true b hi (p .1))
 
 -- `isHex`: 0 to 9, a to f
+pub hex-between : (d : ℕ) → 57 < d → d < 97 → isHex d ≡ false
+unfolding isHex
+hex-between d h k = rw (among-above 48 57 d h, among-below 97 102 d k)
+
 pub hex-below : (d : ℕ) → d < 48 → isHex d ≡ false
 unfolding isHex
 hex-below d h = rw (among-below 48 57 d h, among-below 97 102 d (omega arith))
@@ -30,10 +34,6 @@ hex-below d h = rw (among-below 48 57 d h, among-below 97 102 d (omega arith))
 pub hex-digit : (d : ℕ) → 48 ≤ d → d ≤ 57 → isHex d ≡ true
 unfolding isHex
 hex-digit d h k = rw (among-in 48 57 d h k)
-
-pub hex-between : (d : ℕ) → 57 < d → d < 97 → isHex d ≡ false
-unfolding isHex
-hex-between d h k = rw (among-above 48 57 d h, among-below 97 102 d k)
 
 pub hex-letter : (d : ℕ) → 97 ≤ d → d ≤ 102 → isHex d ≡ true
 unfolding isHex

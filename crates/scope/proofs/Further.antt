@@ -1,4 +1,4 @@
--- A second table: the smallest files that see what P1 to P10 do not, by computing. T is a data type with A and B.
+-- A second table: the smallest files that see what P1 to P10 do not, by computing.
 use mathlib.Core.List.{List, [], _∷_}
 use mathlib.Core.Path.{_≡_, refl}
 use Prim.Native.Nat.{ℕ, zero, suc}
@@ -32,7 +32,7 @@ further =
     record { file = "0100\n0300\n05\n\n\n"; text = "refused 3 line 4\n" } ∷
     -- a last line without line feed
     record { file = "0100\n0300\n05\n05"; text = "refused 3 line 4\n" } ∷
-    -- a line feed alone ends a line
+    -- a carriage return is no digit
     record { file = "0100\n0300\n05\r\n"; text = "refused 3 line 3\n" } ∷
     -- 1,280 digits stand: the frame is short
     record { file = "0100\n01050000\n0301\n04" ++ repeated 639 "07" ++ "\n05\n"; text = "refused 4 line 4\n" } ∷
@@ -50,7 +50,7 @@ further =
     record { file = "0100\n0300\n05\n05\n"; text = "refused 5 line 4\n" } ∷
     -- after the end, unknown before out of place
     record { file = "0100\n0300\n05\n00\n"; text = "refused 4 line 4\n" } ∷
-    -- out of place before short
+    -- a constructor first: out of place before short
     record { file = "02\n"; text = "refused 5 line 1\n" } ∷
     -- a constructor needs a data type just above; out of place before short
     record { file = "0100\n02\n"; text = "refused 5 line 2\n" } ∷
@@ -60,9 +60,9 @@ further =
     record { file = "0100\n0300\nff00\n05\n"; text = "refused 4 line 3\n" } ∷
     -- an unknown kind of type
     record { file = "010b\n"; text = "refused 4 line 1\n" } ∷
-    -- bytes short
+    -- a frame that is short
     record { file = "01\n"; text = "refused 4 line 1\n" } ∷
-    -- bytes over
+    -- a frame with a byte over
     record { file = "0100\n0300\n0500\n"; text = "refused 4 line 3\n" } ∷
     -- a pattern too many
     record { file = "0100\n0300\n040000\n05\n"; text = "refused 4 line 3\n" } ∷
@@ -90,25 +90,25 @@ further =
     record { file = "0100\n0300\n040121" ++ repeated 33 "61" ++ "\n05\n"; text = "refused 4 line 3\n" } ∷
     -- a variable begins with a to z
     record { file = "0100\n0300\n0401015f\n05\n"; text = "refused 4 line 3\n" } ∷
-    -- then a to z, digits or underscore
+    -- then a variable has a to z, digits or underscore
     record { file = "0100\n0300\n04010461305f7a\n05\n"; text = "clauses 1 reached 1 never 0\nclause 1 reached\ngaps 0\ncalls 1 2\n" } ∷
-    -- and no other byte
+    -- a variable has no other byte
     record { file = "0100\n0300\n040102617b\n05\n"; text = "refused 4 line 3\n" } ∷
     -- a label has no upper-case letter
     record { file = "0100\n0106\n020141010100026141\n0300\n05\n"; text = "refused 4 line 3\n" } ∷
     -- a constructor has letters, digits and underscore
     record { file = "0106\n02054161305f5a0000\n0300\n05\n"; text = "clauses 0 reached 0 never 0\ngaps 1\nmissing _\npaste _\ncalls 0 1\n" } ∷
-    -- and no other byte
+    -- a constructor has no other byte
     record { file = "0106\n020241600000\n0300\n05\n"; text = "refused 4 line 2\n" } ∷
     -- 0 is decimal
     record { file = "0100\n0300\n04030130\n05\n"; text = "clauses 1 reached 1 never 0\nclause 1 reached\ngaps 1\nmissing _\npaste _\ncalls 1 2\n" } ∷
     -- 10 is decimal
     record { file = "0100\n0300\n0403023130\n05\n"; text = "clauses 1 reached 1 never 0\nclause 1 reached\ngaps 1\nmissing _\npaste _\ncalls 1 2\n" } ∷
-    -- 00 is not
+    -- 00 is not decimal
     record { file = "0100\n0300\n0403023030\n05\n"; text = "refused 4 line 3\n" } ∷
-    -- -0 is not, and this comes before its type
+    -- -0 is not decimal, which comes before its type
     record { file = "0101\n0300\n0403022d30\n05\n"; text = "refused 4 line 3\n" } ∷
-    -- 7- is not
+    -- 7- is not decimal
     record { file = "0100\n0300\n040302372d\n05\n"; text = "refused 4 line 3\n" } ∷
     -- 64 digits
     record { file = "0100\n0300\n04034031" ++ repeated 63 "30" ++ "\n05\n"; text = "clauses 1 reached 1 never 0\nclause 1 reached\ngaps 1\nmissing _\npaste _\ncalls 1 2\n" } ∷
@@ -148,6 +148,8 @@ further =
     record { file = "0100\n0301\n05\n"; text = "refused 7 line 2\n" } ∷
     -- no types at all is no fault by itself: the reference is
     record { file = "0300\n05\n"; text = "refused 7 line 1\n" } ∷
+    -- short before a table without types
+    record { file = "03\n05\n"; text = "refused 4 line 1\n" } ∷
     -- short before a bad table
     record { file = "010301\n03\n"; text = "refused 4 line 2\n" } ∷
     -- a reference may point forward
@@ -164,7 +166,7 @@ further =
     record { file = "0101\n0300\n04030131\n05\n"; text = "refused 8 line 3\n" } ∷
     -- an opaque type has only discards and variables
     record { file = "0102\n0300\n04030131\n05\n"; text = "refused 8 line 3\n" } ∷
-    -- an assign and a variable suit it
+    -- an assign and a variable suit an opaque type
     record { file = "0102\n0300\n04020178010179\n05\n"; text = "clauses 1 reached 1 never 0\nclause 1 reached\ngaps 0\ncalls 1 2\n" } ∷
     -- a pair at a tuple
     record { file = "0100\n0104020000\n0301\n04070000\n05\n"; text = "refused 8 line 4\n" } ∷
@@ -186,9 +188,9 @@ further =
     record { file = "0100\n0300\n040400\n04\n05\n"; text = "refused 8 line 3\n" } ∷
     -- short later in the line before unsuited early in it
     record { file = "0100\n01050000\n0301\n04070400\n05\n"; text = "refused 4 line 4\n" } ∷
-    -- 4,096 stand and the next is over
+    -- 4,096 nodes stand and the next is over
     record { file = "010302\n0100\n0106\n020141001001010101010101010101010101010101\n0300\n04053c00" ++ repeated 60 "06000001" ++ "\n04053c00" ++ repeated 60 "06000001" ++ "\n04053c00" ++ repeated 60 "06000001" ++ "\n0405ff" ++ repeated 256 "00" ++ "\n0405aa" ++ repeated 171 "00" ++ "\n0400\n0400\n05\n"; text = "refused 9 line 12\n" } ∷
-    -- unsuited before over
+    -- unsuited before over 4,096
     record { file = "010302\n0100\n0106\n020141001001010101010101010101010101010101\n0300\n04053c00" ++ repeated 60 "06000001" ++ "\n04053c00" ++ repeated 60 "06000001" ++ "\n04053c00" ++ repeated 60 "06000001" ++ "\n0405ff" ++ repeated 256 "00" ++ "\n0405aa" ++ repeated 171 "00" ++ "\n0400\n04030133\n05\n"; text = "refused 8 line 12\n" } ∷
     -- over 4,096 constructors and wildcards in the missing rows
     record { file = "0106\n02024330000101\n02024331000101\n02024332000101\n02024333000101\n02024334000101\n02024335000101\n02024336000101\n02024337000101\n02024338000101\n02024339000101\n0203433130000101\n0203433131000101\n0203433132000101\n0203433133000101\n0203433134000101\n0203433135000101\n0203433136000101\n0203433137000101\n0203433138000101\n0203433139000101\n0203433230000101\n0203433231000101\n0203433232000101\n0203433233000101\n0203433234000101\n0203433235000101\n0203433236000101\n0203433237000101\n0203433238000101\n0203433239000101\n0203433330000101\n02015a0000\n0100\n01050000\n0302\n0407061f000000\n040700061f0000\n05\n"; text = "refused 10 line 0\n" } ∷
@@ -202,6 +204,10 @@ further =
     record { file = "0106\n0201410000\n0201420000\n0201430000\n01050000\n0301\n04070600000000\n04070006000000\n05\n"; text = "clauses 2 reached 2 never 0\nclause 1 reached\nclause 2 reached\ngaps 4\nmissing (B, B)\npaste (B, B)\nmissing (C, B)\npaste (C, B)\nmissing (B, C)\npaste (B, C)\nmissing (C, C)\npaste (C, C)\ncalls 4 4\n" } ∷
     -- byte strings are told apart by their bytes
     record { file = "0101\n0300\n040400\n04040100\n0404020000\n04040100\n05\n"; text = "clauses 4 reached 3 never 1\nclause 1 reached\nclause 2 reached\nclause 3 reached\nclause 4 never\ngaps 1\nmissing _\npaste _\ncalls 7 2\n" } ∷
+    -- 64 literals make no column complete
+    record { file = "0100\n0300\n04030130\n04030437393139\n0403053135383338\n0403053233373537\n0403053331363736\n0403053339353935\n0403053437353134\n0403053535343333\n0403053633333532\n0403053731323731\n0403053739313930\n0403053837313039\n0403053935303238\n040306313032393437\n040306313130383636\n040306313138373835\n040306313236373034\n040306313334363233\n040306313432353432\n040306313530343631\n040306313538333830\n040306313636323939\n040306313734323138\n040306313832313337\n040306313930303536\n040306313937393735\n040306323035383934\n040306323133383133\n040306323231373332\n040306323239363531\n040306323337353730\n040306323435343839\n040306323533343038\n040306323631333237\n040306323639323436\n040306323737313635\n040306323835303834\n040306323933303033\n040306333030393232\n040306333038383431\n040306333136373630\n040306333234363739\n040306333332353938\n040306333430353137\n040306333438343336\n040306333536333535\n040306333634323734\n040306333732313933\n040306333830313132\n040306333838303331\n040306333935393530\n040306343033383639\n040306343131373838\n040306343139373037\n040306343237363236\n040306343335353435\n040306343433343634\n040306343531333833\n040306343539333032\n040306343637323231\n040306343735313430\n040306343833303539\n040306343930393738\n040306343938383937\n05\n"; text = "clauses 64 reached 64 never 0\nclause 1 reached\nclause 2 reached\nclause 3 reached\nclause 4 reached\nclause 5 reached\nclause 6 reached\nclause 7 reached\nclause 8 reached\nclause 9 reached\nclause 10 reached\nclause 11 reached\nclause 12 reached\nclause 13 reached\nclause 14 reached\nclause 15 reached\nclause 16 reached\nclause 17 reached\nclause 18 reached\nclause 19 reached\nclause 20 reached\nclause 21 reached\nclause 22 reached\nclause 23 reached\nclause 24 reached\nclause 25 reached\nclause 26 reached\nclause 27 reached\nclause 28 reached\nclause 29 reached\nclause 30 reached\nclause 31 reached\nclause 32 reached\nclause 33 reached\nclause 34 reached\nclause 35 reached\nclause 36 reached\nclause 37 reached\nclause 38 reached\nclause 39 reached\nclause 40 reached\nclause 41 reached\nclause 42 reached\nclause 43 reached\nclause 44 reached\nclause 45 reached\nclause 46 reached\nclause 47 reached\nclause 48 reached\nclause 49 reached\nclause 50 reached\nclause 51 reached\nclause 52 reached\nclause 53 reached\nclause 54 reached\nclause 55 reached\nclause 56 reached\nclause 57 reached\nclause 58 reached\nclause 59 reached\nclause 60 reached\nclause 61 reached\nclause 62 reached\nclause 63 reached\nclause 64 reached\ngaps 1\nmissing _\npaste _\ncalls 127 2\n" } ∷
+    -- a list of no elements with a tail is its tail
+    record { file = "0100\n010300\n0301\n0405000100\n05\n"; text = "clauses 1 reached 1 never 0\nclause 1 reached\ngaps 0\ncalls 1 2\n" } ∷
     -- [] is dropped as the tail of one element
     record { file = "0106\n0201410000\n0201420000\n010300\n010301\n0301\n04050000\n0405010006000000\n04050201000000\n05\n"; text = "clauses 3 reached 3 never 0\nclause 1 reached\nclause 2 reached\nclause 3 reached\ngaps 1\nmissing [B]\npaste [B]\ncalls 6 5\n" } ∷
     -- [] is kept as any other tail

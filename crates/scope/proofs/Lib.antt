@@ -24,3 +24,5 @@ pub mod Literals
 pub mod Simplified
 pub mod Parsing
 pub mod Promised
+pub mod Shape
+pub mod Renamed

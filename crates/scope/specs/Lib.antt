@@ -13,3 +13,4 @@ pub mod Answer
 pub mod Values
 pub mod Meaning
 pub mod Promises
+pub mod Renamed

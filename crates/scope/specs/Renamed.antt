@@ -1,0 +1,61 @@
+-- Two files that differ only in constructor, label and variable names; the same verdicts, number of gaps and calls.
+use mathlib.Core.List.{List, [], _∷_}
+use mathlib.Core.Path.{_≡_}
+use mathlib.Core.Bool.{true}
+use Prim.Native.Nat.{ℕ}
+use lib.ListN.{length}
+use Rattle.scope.specs.Lines.{Line, lines, isLine, bytesOf}
+use Rattle.scope.specs.Types.{Ref, Ctor, Ty}
+use Rattle.scope.specs.Patterns.{Raw}
+use Rattle.scope.specs.Frames.{found, Frame, typeOf, constructorOf, subjectOf, clauseOf, end, frame}
+use Rattle.scope.specs.Blocks.{Block, parsed, blockOf}
+use Rattle.scope.specs.Report.{Findings, findings, report}
+use Rattle.scope.specs.Answer.{reportText}
+
+-- two frames that differ only in names. A clause's patterns as read hold no variable's name
+pub data SameFrame : Frame → Frame → Type 0 where
+  sameType : {ty : Ty} → SameFrame (typeOf ty) (typeOf ty)
+  sameCtor : {c d : Ctor} → c .fields ≡ d .fields → length (c .labels) ≡ length (d .labels) → SameFrame (constructorOf c) (constructorOf d)
+  sameSubject : {t : Ref} → SameFrame (subjectOf t) (subjectOf t)
+  sameClause : {ps : List Raw} → SameFrame (clauseOf ps) (clauseOf ps)
+  sameEnd : SameFrame end end
+
+-- a line that says a frame of kind k, by itself not refused: no 3, no 4
+pub record Says (l : Line) (k : ℕ) (f : Frame) : Type 0 where
+  pub good : isLine l ≡ true
+  pub rest : List ℕ
+  pub kindFirst : bytesOf l ≡ k ∷ rest
+  pub whole : frame k rest ≡ found f []
+
+-- two lines whose frames differ only in names
+pub data SameLine : Line → Line → Type 0 where
+  sameLine : {l l′ : Line} {k : ℕ} {f f′ : Frame} → Says l k f → Says l′ k f′ → SameFrame f f′ → SameLine l l′
+
+-- the same, line by line
+pub data SameLines : List Line → List Line → Type 0 where
+  noLines : SameLines [] []
+  alsoLine : {l l′ : Line} {ls ls′ : List Line} → SameLine l l′ → SameLines ls ls′ → SameLines (l ∷ ls) (l′ ∷ ls′)
+
+-- Two files that differ only in constructor, label and variable names
+pub record Renamed (file file′ : List ℕ) : Type 0 where
+  pub sameLines : SameLines (lines file) (lines file′)
+
+-- the same verdicts, number of gaps and calls
+pub record SameVerdicts (f g : Findings) : Type 0 where
+  pub verdicts : f .reached .result ≡ g .reached .result
+  pub gaps : length (f .missing .result) ≡ length (g .missing .result)
+  pub firstCalls : f .reached .calls ≡ g .reached .calls
+  pub secondCalls : f .missing .calls ≡ g .missing .calls
+
+-- the report of a file is the one of the block that it says
+pub record ReportOf (file : List ℕ) (cells room : ℕ) (b : Block) : Type 0 where
+  pub says : blockOf (lines file) ≡ parsed b
+  pub text : reportText file cells room ≡ report (b .table) (findings b)
+
+-- both answered with a report: the same verdicts, number of gaps and calls
+pub record SameReports (file : List ℕ) (cells room : ℕ) (file′ : List ℕ) (cells′ room′ : ℕ) : Type 0 where
+  pub block : Block
+  pub block′ : Block
+  pub first : ReportOf file cells room block
+  pub second : ReportOf file′ cells′ room′ block′
+  pub same : SameVerdicts (findings block) (findings block′)
