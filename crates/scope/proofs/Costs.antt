@@ -37,7 +37,7 @@ longest-at (ty ∷ table) zero t = rw (same-longest t ty) (longest-left (map fie
 longest-at (ty ∷ table) (suc i) t = omega (arith, longest-at table i t, longest-right (map fieldsOf (ctorsAt 0 ty)) (flatten (map (λ u. map fieldsOf (ctorsAt 0 u)) table)))
 
 -- Weights
-sum-append : {A : Type 0} (f : A → ℕ) (a b : List A) → sum (map f (a ++ b)) ≡ sum (map f a) + sum (map f b)
+pub sum-append : {A : Type 0} (f : A → ℕ) (a b : List A) → sum (map f (a ++ b)) ≡ sum (map f a) + sum (map f b)
 sum-append f [] b = omega arith
 sum-append f (x ∷ a) b = omega (arith, sum-append f a b)
 

@@ -70,7 +70,14 @@ one-ctor t (tuple ts) k l u h = omega arith
 one-ctor t (pair a b) k l u h = omega arith
 one-ctor t (dat cs) k l u h = absurd (omega arith)
 
-suiting-some : (b : Bool) (is new : List Item) → suiting b is ≡ some new → (b ≡ true) × (is ≡ new)
+pub enough-le : (k : ℕ) (spread : Bool) (fs : List Ref) → enough k spread fs ≡ true → k ≤ length fs
+enough-le k spread fs h = go (eqb k (length fs)) refl h
+  where
+    go : (b : Bool) → eqb k (length fs) ≡ b → (b || (spread && leb k (length fs))) ≡ true → k ≤ length fs
+    go true e g = omega (arith, eqb-true k (length fs) e)
+    go false e g = leb-true k (length fs) (both spread (leb k (length fs)) g .1)
+
+pub suiting-some : (b : Bool) (is new : List Item) → suiting b is ≡ some new → (b ≡ true) × (is ≡ new)
 suiting-some true is new e = (refl, cc)
 suiting-some false is new e = clash (cc)
 
@@ -100,13 +107,6 @@ module _ (table : Table) (rest : List Item) (ts : List Ref) (f : Fit table ts re
       let l = list-facts t (typeAt table t) h in
       let e = getD (fieldsAt table t 0) 0 0 in
       cons {c = 0} (two-ctors t 0 h (omega arith)) (subst (λ (fs : List Ref). Fit table (fs ++ ts) (pat e ∷ (cells t e k tail ++ rest))) (sym (l .1)) (pats (cells-fit t k tail h)))
-
-  enough-le : (k : ℕ) (spread : Bool) (fs : List Ref) → enough k spread fs ≡ true → k ≤ length fs
-  enough-le k spread fs h = go (eqb k (length fs)) refl h
-    where
-      go : (b : Bool) → eqb k (length fs) ≡ b → (b || (spread && leb k (length fs))) ≡ true → k ≤ length fs
-      go true e g = omega (arith, eqb-true k (length fs) e)
-      go false e g = leb-true k (length fs) (both spread (leb k (length fs)) g .1)
 
   ctor-fits : (t : Ref) (c k : ℕ) → c < length (ctors table t) → k ≤ length (fieldsAt table t c) → Fit table (t ∷ ts) ((put (con t c) ∷ arguments k (fieldsAt table t c)) ++ rest)
   ctor-fits t c k h l = cons h (arguments-fit k (length (fieldsAt table t c) - k) (fieldsAt table t c) (omega arith))

@@ -1,0 +1,98 @@
+-- What it means that the flat definitions agree with the source's own functions on its own trees, from a file's clauses to the text of its gaps.
+use mathlib.Core.List.{List, [], _∷_, _++_, map}
+use mathlib.Core.Path.{_≡_}
+use mathlib.Core.Bool.{Bool, true, false}
+use Prim.Native.Nat.{ℕ, _<_}
+use lib.ListN.{length, getD, take}
+use Rattle.scope.specs.Lists.{Text, flatten}
+use Rattle.scope.specs.Lines.{Line, lines, bytesOf}
+use Rattle.scope.specs.Types.{Ref, Table, typeAt, kind, ctors, ctorAt, fieldsAt, arity}
+use Rattle.scope.specs.Patterns.{Literal, literalKind, wild, lit, con, Row, Matrix, Raw}
+use Rattle.scope.specs.Frames.{Frame, frame}
+use Rattle.scope.specs.Blocks.{Block, Step, ok, refuse, wholly}
+use Rattle.scope.specs.Walks.{Walk, plain, turned, joined, cost, isUseful}
+use Rattle.scope.specs.Text.{source, pretty}
+use Rattle.scope.specs.Report.{findings}
+use Rattle.scope.specs.Source.{ValueConstructor, wildcard, literal, constructor, Patterns, []ᵖ, _∷ᵖ_, _++ᵖ_, len, Panic, constructorsFor, TypedPattern, TypedPatterns, []ᵗ, _∷ᵗ_, count}
+use Rattle.scope.specs.Source as rust
+
+-- constructor c of type t as the source has it: its name, the constructors of its type, as many arguments as its arity
+pub record Made (table : Table) (t : Ref) (c : ℕ) (name : Text) (alts : List ValueConstructor) (args : Patterns) : Type 0 where
+  pub known : c < length (ctors table t)
+  pub named : name ≡ ctorAt table t c .name
+  pub listed : alts ≡ constructorsFor table t
+  pub filled : len args ≡ arity table t c
+
+-- a flat row of patterns of these types shows the same patterns as trees
+pub data Shows (table : Table) : List Ref → Row → Patterns → Type 0 where
+  done : Shows table [] [] []ᵖ
+  wilds : {t : Ref} {ts : List Ref} {r : Row} {ps : Patterns} → Shows table ts r ps → Shows table (t ∷ ts) (wild ∷ r) (wildcard ∷ᵖ ps)
+  lits : {t : Ref} {ts : List Ref} {l : Literal} {r : Row} {ps : Patterns} → kind (typeAt table t) ≡ literalKind l → Shows table ts r ps → Shows table (t ∷ ts) (lit l ∷ r) (literal l ∷ᵖ ps)
+  cons : {t : Ref} {ts : List Ref} {c : ℕ} {name : Text} {alts : List ValueConstructor} {args : Patterns} {r : Row} {ps : Patterns} → Made table t c name alts args → Shows table (fieldsAt table t c ++ ts) r (args ++ᵖ ps) → Shows table (t ∷ ts) (con t c ∷ r) (constructor name alts args ∷ᵖ ps)
+
+-- rows show rows, in order
+pub data ShowsRows (table : Table) (ts : List Ref) : Matrix → rust.Matrix → Type 0 where
+  noRows : ShowsRows table ts [] []
+  also : {r : Row} {p : Patterns} {m : Matrix} {ps : rust.Matrix} → Shows table ts r p → ShowsRows table ts m ps → ShowsRows table ts (r ∷ m) (p ∷ ps)
+
+-- a walk shows a walk: its rows do, after as many calls, with as many cells held
+pub record ShowsWalk (table : Table) (ts : List Ref) (w : Walk Matrix) (v : Walk rust.Matrix) : Type 0 where
+  pub rows : ShowsRows table ts (w .result) (v .result)
+  pub calls : w .calls ≡ v .calls
+  pub peak : w .peak ≡ v .peak
+
+-- the patterns of a frame, if it is a clause
+abbrev pub clauseIn : Step Frame → List (List Raw)
+clauseIn (refuse n) = []
+clauseIn (ok (Frame.typeOf ty)) = []
+clauseIn (ok (Frame.constructorOf c)) = []
+clauseIn (ok (Frame.subjectOf t)) = []
+clauseIn (ok (Frame.clauseOf ps)) = ps ∷ []
+clauseIn (ok Frame.end) = []
+
+-- the clause in a line's bytes, if there is one
+abbrev pub clauseOf : List ℕ → List (List Raw)
+clauseOf [] = []
+clauseOf (k ∷ bs) = clauseIn (wholly (frame k bs))
+
+-- the clauses of a file, as written
+unfoldable pub clausesIn : List Line → List (List Raw)
+clausesIn ls = flatten (map (λ l. clauseOf (bytesOf l)) ls)
+
+unfoldable mutual
+  -- a pattern as a clause writes it
+  pub written : TypedPattern → List Raw
+  written rust.var = Raw.variable ∷ []
+  written rust.discard = Raw.discard ∷ []
+  written (rust.int n) = Raw.number n ∷ []
+  written (rust.byteArray s) = Raw.string s ∷ []
+  written (rust.assign p) = Raw.assign ∷ written p
+  written (rust.list elements) = Raw.listOf (count elements) false ∷ writtenEach elements
+  written (rust.listTo elements tail) = Raw.listOf (count elements) true ∷ (writtenEach elements ++ written tail)
+  written (rust.ctor c args spread) = Raw.constructor c (count args) spread ∷ writtenEach args
+  written (rust.pair fst snd) = Raw.pairOf ∷ (written fst ++ written snd)
+  written (rust.tuple elems) = Raw.tupleOf (count elems) ∷ writtenEach elems
+
+  -- one after another
+  pub writtenEach : TypedPatterns → List Raw
+  writtenEach []ᵗ = []
+  writtenEach (p ∷ᵗ ps) = written p ++ writtenEach ps
+
+-- the driver of document 01 over the source's `is_useful`
+unfoldable pub judged : Panic → ℕ → rust.Matrix → rust.Matrix → Walk (List Bool)
+judged panic fuel before [] = plain []
+judged panic fuel before (r ∷ rs) = joined _++_ (turned (_∷ []) (rust.isUseful panic fuel before r)) (judged panic fuel (before ++ r ∷ []) rs)
+
+-- the source's rows m are the block's, and so is all that the source says of them, calling itself as deep as the fuel goes: of each clause, of all, of the gaps
+pub record Agrees (panic : Panic) (fuel : ℕ) (b : Block) (m : rust.Matrix) : Type 0 where
+  pub rows : ShowsRows (b .table) (b .subject ∷ []) (b .rows) m
+  pub each : (i : ℕ) → i < length (b .rows) → isUseful (b .table) 1 (take i (b .rows)) (getD (b .rows) i []) ≡ rust.isUseful panic fuel (take i m) (getD m i []ᵖ)
+  pub reached : findings b .reached ≡ judged panic fuel [] m
+  pub missing : ShowsWalk (b .table) (b .subject ∷ []) (findings b .missing) (rust.collectMissingPatterns panic fuel 1 m)
+  pub texts : map (pretty source (b .table)) (findings b .missing .result) ≡ rust.prettyEach panic (rust.flatten (rust.collectMissingPatterns panic fuel 1 m .result))
+
+-- the file's own clauses are these patterns, and the source agrees about them from some depth of calls on, whatever a panic would give
+pub record SourceAgrees (file : List ℕ) (b : Block) : Type 0 where
+  pub clauses : List TypedPattern
+  pub asWritten : map written clauses ≡ clausesIn (lines file)
+  pub agrees : (panic : Panic) (fuel : ℕ) → cost (b .table) 1 (b .rows) < fuel → Agrees panic fuel b (map (λ p. rust.simplify panic (b .table) (b .subject) p ∷ᵖ []ᵖ) clauses)

@@ -1,0 +1,395 @@
+-- The source's own functions on its own trees, under its names, to be laid beside docs/src line by line.
+use mathlib.Core.List.{List, [], _∷_, _++_, map, filterMap, flatMap}
+use mathlib.Core.Bool.{Bool, true, false, cond, _&&_, _||_}
+use mathlib.Core.Option.{Option, none, some}
+use Prim.Native.Nat.{ℕ, zero, suc, _+_, _-_, _*_}
+use lib.ListN.{length, getD, drop}
+use lib.Dec.{eqb, ltb}
+use Rattle.scope.specs.Lists.{Text, bytes, any, same}
+use Rattle.scope.specs.Types.{Ref, Ctor, Table, ctors, ctorAt, fieldsAt, arity, consName, nilName, tupleName}
+use Rattle.scope.specs.Patterns.{Literal, sameLiteral}
+use Rattle.scope.specs.Walks.{Walk, plain, holding, turned, joined}
+use Rattle.scope.specs.Text.{commas, contains}
+
+-- `ValueConstructor`: of its record the module reads the name, the arity and the field map, which is labels in field order
+pub record ValueConstructor : Type 0 where
+  pub name : Text
+  pub arity : ℕ
+  pub fieldMap : Option (List Text)
+
+-- `Pattern`
+infixr 67 _∷ᵖ_
+mutual
+  pub data Pattern : Type 0 where
+    wildcard : Pattern
+    literal : Literal → Pattern
+    constructor : Text → List ValueConstructor → Patterns → Pattern
+
+  -- `Vec<Pattern>`
+  pub data Patterns : Type 0 where
+    []ᵖ : Patterns
+    _∷ᵖ_ : Pattern → Patterns → Patterns
+
+-- `len`
+abbrev pub len : Patterns → ℕ
+len []ᵖ = 0
+len (p ∷ᵖ ps) = suc (len ps)
+
+-- `chain`
+infixl 65 _++ᵖ_
+abbrev pub _++ᵖ_ : Patterns → Patterns → Patterns
+[]ᵖ ++ᵖ qs = qs
+(p ∷ᵖ ps) ++ᵖ qs = p ∷ᵖ (ps ++ᵖ qs)
+
+-- `vec![Pattern::Wildcard; n]`
+abbrev pub wildcards : ℕ → Patterns
+wildcards zero = []ᵖ
+wildcards (suc n) = wildcard ∷ᵖ wildcards n
+
+-- `PatternStack`
+abbrev pub PatternStack : Type 0
+PatternStack = Patterns
+
+-- `Matrix`
+abbrev pub Matrix : Type 0
+Matrix = List PatternStack
+
+-- an entry of the map `BTreeMap<String, Vec<ValueConstructor>>`
+pub record Entry : Type 0 where
+  pub key : Text
+  pub value : List ValueConstructor
+
+-- `contains_key`
+unfoldable pub containsKey : Text → List Entry → Bool
+containsKey key entries = any (λ e. same key (e .key)) entries
+
+-- does a key come before another: byte by byte
+abbrev pub before : Text → Text → Bool
+before s [] = false
+before [] (b ∷ t) = true
+before (a ∷ s) (b ∷ t) = cond (eqb a b) (before s t) (ltb a b)
+
+-- an entry whose key is new stands in front of the first later key
+abbrev pub place : Entry → List Entry → List Entry
+place new [] = new ∷ []
+place new (e ∷ es) = cond (before (new .key) (e .key)) (new ∷ e ∷ es) (e ∷ place new es)
+
+-- an entry takes the place of that with its key
+abbrev pub replace : Entry → List Entry → List Entry
+replace new es = map (λ e. cond (same (new .key) (e .key)) new e) es
+
+-- `insert`: the map is ordered by its keys and has none twice
+unfoldable pub insert : Entry → List Entry → List Entry
+insert new es = cond (containsKey (new .key) es) (replace new es) (place new es)
+
+-- `Complete`
+pub data Complete : Type 0 where
+  complete : List ValueConstructor → Complete
+  incomplete : Complete
+
+-- `is_complete`, by the two counts: `num_seen` is the map's length, `first_key_value` its first entry
+abbrev pub completeBy : List Entry → Complete
+completeBy [] = incomplete
+completeBy (e ∷ es) = cond (eqb (suc (length es)) (length (e .value))) (complete (e .value)) incomplete
+
+-- `any` over the alternatives, which stops at the first yes
+abbrev pub anyAlt : (ValueConstructor → Walk Bool) → List ValueConstructor → Walk Bool
+anyAlt f [] = plain false
+anyAlt f (alt ∷ alts) =
+    let w = f alt in
+    let more = joined _||_ w (anyAlt f alts) in
+    cond (w .result) w more
+
+-- `map` over the alternatives and `fold` by `concat`
+abbrev pub concatAlts : (ValueConstructor → Walk Matrix) → List ValueConstructor → Walk Matrix
+concatAlts f [] = plain []
+concatAlts f (alt ∷ alts) = joined _++_ (f alt) (concatAlts f alts)
+
+-- `flatten`
+abbrev pub flatten : Matrix → Patterns
+flatten [] = []ᵖ
+flatten (row ∷ rows) = row ++ᵖ flatten rows
+
+-- `is_missing`
+abbrev pub isMissing : List ValueConstructor → List Entry → ValueConstructor → Option Pattern
+isMissing alts ctors ctor = cond (containsKey (ctor .name) ctors) none (some (constructor (ctor .name) alts (wildcards (ctor .arity))))
+
+-- this row, or none
+abbrev pub rowIf : Bool → PatternStack → Option PatternStack
+rowIf true r = some r
+rowIf false r = none
+
+-- `specialize_row_by_wildcard`
+abbrev pub specializeRowByWildcard : PatternStack → Option PatternStack
+specializeRowByWildcard []ᵖ = none
+specializeRowByWildcard (constructor name alts args ∷ᵖ tail) = none
+specializeRowByWildcard (literal l ∷ᵖ tail) = none
+specializeRowByWildcard (wildcard ∷ᵖ tail) = some tail
+
+-- `specialize_rows_by_wildcard`
+abbrev pub specializeRowsByWildcard : Matrix → Matrix
+specializeRowsByWildcard m = filterMap specializeRowByWildcard m
+
+-- What a panic would give, by where it would be: anything. No walk comes to one, so nothing said of the source hangs on it
+pub record Panic : Type 0 where
+  pub row : Option PatternStack
+  pub ctors : List Entry
+  pub patterns : Patterns
+  pub text : Text
+
+-- The rest of the module, where a panic gives that: `head` of no pattern, `split_off` past the end, a range below 0, `unreachable!`
+module _ (panic : Panic) where
+  -- `specialize_row_by_ctor`
+  abbrev pub specializeRowByCtor : Text → ℕ → PatternStack → Option PatternStack
+  specializeRowByCtor name arity []ᵖ = panic .row
+  specializeRowByCtor name arity (constructor pName alts pArgs ∷ᵖ tail) = rowIf (same pName name && eqb (len pArgs) arity) (pArgs ++ᵖ tail)
+  specializeRowByCtor name arity (wildcard ∷ᵖ tail) = some (wildcards arity ++ᵖ tail)
+  specializeRowByCtor name arity (literal l ∷ᵖ tail) = panic .row
+
+  -- `specialize_row_by_literal`
+  abbrev pub specializeRowByLiteral : Literal → PatternStack → Option PatternStack
+  specializeRowByLiteral l []ᵖ = panic .row
+  specializeRowByLiteral l (literal pLiteral ∷ᵖ tail) = rowIf (sameLiteral pLiteral l) tail
+  specializeRowByLiteral l (wildcard ∷ᵖ tail) = some tail
+  specializeRowByLiteral l (constructor name alts args ∷ᵖ tail) = panic .row
+
+  -- `split_at`: the first n patterns
+  abbrev pub firstOf : ℕ → PatternStack → PatternStack
+  firstOf zero ps = []ᵖ
+  firstOf (suc n) []ᵖ = panic .patterns
+  firstOf (suc n) (p ∷ᵖ ps) = p ∷ᵖ firstOf n ps
+
+  -- `split_at`: the patterns after them
+  abbrev pub restOf : ℕ → PatternStack → PatternStack
+  restOf zero ps = ps
+  restOf (suc n) []ᵖ = panic .patterns
+  restOf (suc n) (p ∷ᵖ ps) = restOf n ps
+
+  -- `collect_ctors`: what one row adds
+  abbrev pub collectRow : List Entry → PatternStack → List Entry
+  collectRow ctors []ᵖ = panic .ctors
+  collectRow ctors (constructor name alts args ∷ᵖ tail) = insert (record { key = name; value = alts }) ctors
+  collectRow ctors (wildcard ∷ᵖ tail) = ctors
+  collectRow ctors (literal l ∷ᵖ tail) = ctors
+
+  -- `collect_ctors`: row after row
+  abbrev pub collectInto : List Entry → Matrix → List Entry
+  collectInto ctors [] = ctors
+  collectInto ctors (row ∷ rows) = collectInto (collectRow ctors row) rows
+
+  -- `collect_ctors`
+  unfoldable pub collectCtors : Matrix → List Entry
+  collectCtors m = collectInto [] m
+
+  -- `is_complete`
+  abbrev pub isComplete : Matrix → Complete
+  isComplete m = completeBy (collectCtors m)
+
+  -- `specialize_rows_by_ctor`
+  abbrev pub specializeRowsByCtor : Text → ℕ → Matrix → Matrix
+  specializeRowsByCtor name arity m = filterMap (specializeRowByCtor name arity) m
+
+  -- `specialize_rows_by_literal`
+  abbrev pub specializeRowsByLiteral : Literal → Matrix → Matrix
+  specializeRowsByLiteral l m = filterMap (specializeRowByLiteral l) m
+
+  -- One call of `is_useful`; `again` is the call that it makes
+  module _ (again : Matrix → PatternStack → Walk Bool) where
+    -- the arms of a head wildcard
+    abbrev pub usefulWildcard : Complete → Matrix → PatternStack → Walk Bool
+    usefulWildcard incomplete m tail = again (specializeRowsByWildcard m) tail
+    usefulWildcard (complete alts) m tail = anyAlt (λ alt. again (specializeRowsByCtor (alt .name) (alt .arity) m) (wildcards (alt .arity) ++ᵖ tail)) alts
+
+    -- the arms in their order
+    abbrev pub usefulBody : Matrix → PatternStack → Walk Bool
+    usefulBody [] vector = plain true
+    usefulBody (r ∷ m) []ᵖ = plain false
+    usefulBody (r ∷ m) (constructor name alts args ∷ᵖ tail) = again (specializeRowsByCtor name (len args) (r ∷ m)) (args ++ᵖ tail)
+    usefulBody (r ∷ m) (wildcard ∷ᵖ tail) = usefulWildcard (isComplete (r ∷ m)) (r ∷ m) tail
+    usefulBody (r ∷ m) (literal l ∷ᵖ tail) = again (specializeRowsByLiteral l (r ∷ m)) tail
+
+    -- the cells held are (rows + 1) times the row's length
+    unfoldable pub isUsefulStep : Matrix → PatternStack → Walk Bool
+    isUsefulStep m vector = holding (suc (length m) * len vector) (usefulBody m vector)
+
+  -- `is_useful`, which calls itself as deep as the fuel goes
+  unfoldable pub isUseful : ℕ → Matrix → PatternStack → Walk Bool
+  isUseful zero m vector = plain false
+  isUseful (suc fuel) m vector = isUsefulStep (λ m′ vector′. isUseful fuel m′ vector′) m vector
+
+  -- `recover_ctor`
+  abbrev pub recoverCtor : List ValueConstructor → Text → ℕ → PatternStack → PatternStack
+  recoverCtor alts name arity patterns = constructor name alts (firstOf arity patterns) ∷ᵖ restOf arity patterns
+
+  -- One call of `collect_missing_patterns`; `again` is the call that it makes
+  module _ (again : ℕ → Matrix → Walk Matrix) where
+    -- after `collect_ctors`, with n patterns behind the first
+    abbrev pub missingBy : List Entry → ℕ → Matrix → Walk Matrix
+    missingBy [] n m = turned (map (wildcard ∷ᵖ_)) (again n (specializeRowsByWildcard m))
+    missingBy (e ∷ es) n m =
+        let alts = e .value in
+        let missed = turned (flatMap (λ row. map (_∷ᵖ row) (filterMap (isMissing alts (e ∷ es)) alts))) (again n (specializeRowsByWildcard m)) in
+        let recovered = concatAlts (λ alt. turned (map (recoverCtor alts (alt .name) (alt .arity))) (again (alt .arity + n) (specializeRowsByCtor (alt .name) (alt .arity) m))) alts in
+        cond (ltb (suc (length es)) (length alts)) missed recovered
+
+    -- the test for no rows, then for n = 0
+    abbrev pub missingBody : ℕ → Matrix → Walk Matrix
+    missingBody n [] = plain (wildcards n ∷ [])
+    missingBody zero (r ∷ m) = plain []
+    missingBody (suc n) (r ∷ m) = missingBy (collectCtors (r ∷ m)) n (r ∷ m)
+
+    -- the cells held are rows times n
+    unfoldable pub collectMissingStep : ℕ → Matrix → Walk Matrix
+    collectMissingStep n m = holding (length m * n) (missingBody n m)
+
+  -- `collect_missing_patterns`, which calls itself as deep as the fuel goes
+  unfoldable pub collectMissingPatterns : ℕ → ℕ → Matrix → Walk Matrix
+  collectMissingPatterns zero n m = plain []
+  collectMissingPatterns (suc fuel) n m = collectMissingStep (λ n′ m′. collectMissingPatterns fuel n′ m′) n m
+
+-- an argument, with what `pretty` and `pretty_tail` give of it
+pub record Arg : Type 0 where
+  pub pattern : Pattern
+  pub plainText : Text
+  pub tailText : Text
+
+-- the arguments of "::" in `pretty`: of index 1 the tail, unless it is "[]"
+abbrev pub cellTexts : ℕ → List Arg → List Text
+cellTexts index [] = []
+cellTexts index (p ∷ args) = cond (eqb index 1) (cond (same (p .tailText) nilName) [] (p .tailText ∷ [])) (p .plainText ∷ []) ++ cellTexts (suc index) args
+
+-- the arguments of "::" in `pretty_tail`: of index 1 the tail
+abbrev pub tailTexts : ℕ → List Arg → List Text
+tailTexts index [] = []
+tailTexts index (p ∷ args) = cond (eqb index 1) (p .tailText) (p .plainText) ∷ tailTexts (suc index) args
+
+-- `find_map`: the first that there is
+abbrev pub findMap : (ValueConstructor → Option (List Text)) → List ValueConstructor → Option (List Text)
+findMap f [] = none
+findMap f (alt ∷ alts) = first (f alt) (findMap f alts)
+  where
+    first : Option (List Text) → Option (List Text) → Option (List Text)
+    first none more = more
+    first (some labels) more = some labels
+
+-- a label and its argument: the label alone for a wildcard
+abbrev pub labelText : Text → Pattern → Text → Text
+labelText label wildcard t = label
+labelText label (literal l) t = label ++ bytes ": " ++ t
+labelText label (constructor name alts args) t = label ++ bytes ": " ++ t
+
+-- labels and arguments by `zip`
+abbrev pub labelTexts : List Text → List Arg → List Text
+labelTexts [] args = []
+labelTexts (label ∷ labels) [] = []
+labelTexts (label ∷ labels) (p ∷ args) = labelText label (p .pattern) (p .plainText) ∷ labelTexts labels args
+
+-- the third arm of `pretty` for a constructor: with a field map, or with arguments if there are any
+abbrev pub prettyRecord : Text → Option (List Text) → List Arg → Text
+prettyRecord name (some labels) args = name ++ (bytes " { " ++ commas (labelTexts labels args) ++ bytes " }")
+prettyRecord name none [] = name
+prettyRecord name none (p ∷ args) = name ++ (bytes "(" ++ commas (map (λ a. a .plainText) (p ∷ args)) ++ bytes ")")
+
+-- the arms of `pretty` for a constructor
+abbrev pub prettyCtor : Text → List ValueConstructor → List Arg → Text
+prettyCtor name alts args =
+    cond (contains tupleName name) (bytes "(" ++ commas (map (λ a. a .plainText) args) ++ bytes ")")
+    (cond (same name consName) (bytes "[" ++ commas (cellTexts 0 args) ++ bytes "]")
+    (prettyRecord name (findMap (λ alt. cond (same (alt .name) name) (alt .fieldMap) none) alts) args))
+
+module _ (panic : Panic) where
+  unfoldable mutual
+    -- `pretty`
+    pub pretty : Pattern → Text
+    pretty wildcard = bytes "_"
+    pretty (literal l) = panic .text
+    pretty (constructor name alts args) = prettyCtor name alts (prettyArgs args)
+
+    -- `pretty_tail`
+    pub prettyTail : Pattern → Text
+    prettyTail (constructor name alts args) = cond (same name consName) (commas (tailTexts 0 (prettyArgs args))) (prettyCtor name alts (prettyArgs args))
+    prettyTail wildcard = bytes ".."
+    prettyTail (literal l) = panic .text
+
+    -- the arguments with their texts
+    pub prettyArgs : Patterns → List Arg
+    prettyArgs []ᵖ = []
+    prettyArgs (p ∷ᵖ ps) = record { pattern = p; plainText = pretty p; tailText = prettyTail p } ∷ prettyArgs ps
+
+  -- `map(Pattern::pretty)`
+  abbrev pub prettyEach : Patterns → List Text
+  prettyEach ps = map (λ a. a .plainText) (prettyArgs ps)
+
+-- `list_constructors`
+abbrev pub listConstructors : List ValueConstructor
+listConstructors = record { name = consName; arity = 2; fieldMap = none } ∷ record { name = nilName; arity = 0; fieldMap = none } ∷ []
+
+-- the one alternative of a tuple
+abbrev pub tupleConstructors : ℕ → List ValueConstructor
+tupleConstructors arity = record { name = tupleName; arity = arity; fieldMap = none } ∷ []
+
+-- labels as a field map: none where there are no labels
+abbrev pub fieldMapOf : List Text → Option (List Text)
+fieldMapOf [] = none
+fieldMapOf (label ∷ labels) = some (label ∷ labels)
+
+-- a constructor of the type table as the source has it
+abbrev pub valueConstructor : Ctor → ValueConstructor
+valueConstructor c = record { name = c .name; arity = length (c .fields); fieldMap = fieldMapOf (c .labels) }
+
+-- `get_constructors_for_type`: the file's type table stands for it
+abbrev pub constructorsFor : Table → Ref → List ValueConstructor
+constructorsFor table t = map valueConstructor (ctors table t)
+
+-- `ast::Pattern`, as far as frames can write it: a list has a tail or none, a constructor goes by its number
+infixr 67 _∷ᵗ_
+mutual
+  pub data TypedPattern : Type 0 where
+    var discard : TypedPattern
+    int byteArray : Text → TypedPattern
+    assign : TypedPattern → TypedPattern
+    list : TypedPatterns → TypedPattern
+    listTo : TypedPatterns → TypedPattern → TypedPattern
+    ctor : ℕ → TypedPatterns → Bool → TypedPattern
+    pair : TypedPattern → TypedPattern → TypedPattern
+    tuple : TypedPatterns → TypedPattern
+
+  -- `Vec<ast::Pattern>`
+  pub data TypedPatterns : Type 0 where
+    []ᵗ : TypedPatterns
+    _∷ᵗ_ : TypedPattern → TypedPatterns → TypedPatterns
+
+-- how many there are
+abbrev pub count : TypedPatterns → ℕ
+count []ᵗ = 0
+count (p ∷ᵗ ps) = suc (count ps)
+
+-- the wildcards that a spread adds to n arguments
+abbrev pub spreadBy : Panic → ℕ → ℕ → Bool → Patterns
+spreadBy panic arity n false = []ᵖ
+spreadBy panic arity n true = cond (ltb arity n) (panic .patterns) (wildcards (arity - n))
+
+module _ (panic : Panic) (table : Table) where
+  unfoldable mutual
+    -- `simplify`, of a pattern of type t
+    pub simplify : Ref → TypedPattern → Pattern
+    simplify t (int n) = literal (Literal.int n)
+    simplify t (byteArray s) = literal (Literal.byteArray s)
+    simplify t (assign p) = simplify t p
+    simplify t (list elements) = simplifyCells (getD (fieldsAt table t 0) 0 0) elements (constructor nilName listConstructors []ᵖ)
+    simplify t (listTo elements tail) = simplifyCells (getD (fieldsAt table t 0) 0 0) elements (simplify t tail)
+    simplify t (ctor c args spread) = constructor (ctorAt table t c .name) (constructorsFor table t) (simplifyEach (fieldsAt table t c) args ++ᵖ spreadBy panic (arity table t c) (count args) spread)
+    simplify t (pair fst snd) = constructor tupleName (tupleConstructors 2) (simplify (getD (fieldsAt table t 0) 0 0) fst ∷ᵖ simplify (getD (fieldsAt table t 0) 1 0) snd ∷ᵖ []ᵖ)
+    simplify t (tuple elems) = constructor tupleName (tupleConstructors (count elems)) (simplifyEach (fieldsAt table t 0) elems)
+    simplify t var = wildcard
+    simplify t discard = wildcard
+
+    -- each of the patterns, of these types
+    pub simplifyEach : List Ref → TypedPatterns → Patterns
+    simplifyEach ts []ᵗ = []ᵖ
+    simplifyEach ts (p ∷ᵗ ps) = simplify (getD ts 0 0) p ∷ᵖ simplifyEach (drop 1 ts) ps
+
+    -- "::" around each of the elements, which are of type t, and the list p
+    pub simplifyCells : Ref → TypedPatterns → Pattern → Pattern
+    simplifyCells t []ᵗ p = p
+    simplifyCells t (hd ∷ᵗ elements) p = constructor consName listConstructors (simplify t hd ∷ᵖ simplifyCells t elements p ∷ᵖ []ᵖ)
