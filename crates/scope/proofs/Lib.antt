@@ -26,11 +26,3 @@ pub mod Parsing
 pub mod Promised
 pub mod Shape
 pub mod Renamed
-pub mod SourceRows
-pub mod SourceColumns
-pub mod SourceWalks
-pub mod SourceTexts
-pub mod SourceClauses
-pub mod SourceTables
-pub mod SourceBlocks
-pub mod Source

@@ -14,5 +14,3 @@ pub mod Values
 pub mod Meaning
 pub mod Promises
 pub mod Renamed
-pub mod Source
-pub mod Agreement

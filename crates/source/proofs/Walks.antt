@@ -7,16 +7,16 @@ use native.Mathlib.Nat.{zero-add, add-zero}
 use native.Mathlib.Omega.{arith}
 use lib.ListN.{length, getD, replicate, length-append}
 use borrow.Author.Tests.{eq-eqb, ne-eqb, lt-ltb, le-ltb}
 use Rattle.scope.specs.Types.{Ref, Ctor, Table, fieldsOf, built, ctors, ctorAt, fieldsAt, arity, alts}
 use Rattle.scope.specs.Patterns.{wild, con, Row, Matrix}
 use Rattle.scope.specs.Walks.{Walk, plain, holding, turned, joined, seen, Column, tryEach, unseen, gather}
 use Rattle.scope.specs.Walks as flat
-use Rattle.scope.specs.Source as rust
-use Rattle.scope.specs.Source.{ValueConstructor, constructor, Patterns, []ᵖ, _∷ᵖ_, _++ᵖ_, len, wildcards, Panic, firstOf, restOf, Entry, containsKey, completeBy, anyAlt, isMissing, concatAlts, valueConstructor, constructorsFor}
-use Rattle.scope.specs.Agreement.{Made, Shows, done, wilds, lits, cons, ShowsRows, noRows, also, ShowsWalk}
+use Rattle.source.specs.Source as rust
+use Rattle.source.specs.Source.{ValueConstructor, constructor, Patterns, []ᵖ, _∷ᵖ_, _++ᵖ_, len, wildcards, Panic, firstOf, restOf, Entry, containsKey, completeBy, anyAlt, isMissing, concatAlts, valueConstructor, constructorsFor}
+use Rattle.source.specs.Agreement.{Made, Shows, done, wilds, lits, cons, ShowsRows, noRows, also, ShowsWalk}
 use Rattle.scope.proofs.Steps.{useful-fuel, missing-fuel}
-use Rattle.scope.proofs.SourceRows.{Named, len-append, len-wildcards, shows-len, rows-length, rows-append, shows-wilds, wildcard-shows, literal-shows, ctor-shows}
-use Rattle.scope.proofs.SourceColumns.{ColumnAgrees, bares, parts, fulls, Keyed, key-seen, column-agrees}
+use Rattle.source.proofs.Rows.{Named, len-append, len-wildcards, shows-len, rows-length, rows-append, shows-wilds, wildcard-shows, literal-shows, ctor-shows}
+use Rattle.source.proofs.Columns.{ColumnAgrees, bares, parts, fulls, Keyed, key-seen, column-agrees}
 
 module _ (table : Table) (t : Ref) where
   -- the constructors of type t from number c on

@@ -9,18 +9,18 @@ use lib.ListN.{length, drop, replicate}
 use lib.Seq.{drop-append-add}
 use lib.Dec.{eqb}
 use borrow.Author.Tests.{eqb-true, eqb-false, ne-eqb}
 use Rattle.scope.specs.Lists.{Text, bytes, same}
 use Rattle.scope.specs.Types.{Ref, Ctor, Table, alts, ctors, ctorAt, fieldsAt, arity, consName, nilName, tupleName}
 use Rattle.scope.specs.Patterns.{Literal, Node, wild, lit, con, Row, Matrix}
 use Rattle.scope.specs.Text.{commas, contains, skip, source, textUnless, Look, look, lookByName, Place, alone, inTail, texts, fieldText, fieldTexts, argumentText, prettyCtor, tailCtor, prettyStep, prettyAt}
 use Rattle.scope.specs.Walks as flat
-use Rattle.scope.specs.Source as rust
-use Rattle.scope.specs.Source.{ValueConstructor, Pattern, wildcard, literal, constructor, Patterns, []ᵖ, _∷ᵖ_, _++ᵖ_, len, Panic, cellTexts, tailTexts, findMap, labelText, labelTexts, prettyRecord, pretty, prettyTail, prettyArgs, fieldMapOf, valueConstructor}
-use Rattle.scope.specs.Agreement.{Made, Shows, done, wilds, lits, cons}
+use Rattle.source.specs.Source as rust
+use Rattle.source.specs.Source.{ValueConstructor, Pattern, wildcard, literal, constructor, Patterns, []ᵖ, _∷ᵖ_, _++ᵖ_, len, Panic, cellTexts, tailTexts, findMap, labelText, labelTexts, prettyRecord, pretty, prettyTail, prettyArgs, fieldMapOf, valueConstructor}
+use Rattle.source.specs.Agreement.{Made, Shows, done, wilds, lits, cons}
 use Rattle.scope.proofs.Tests.{clash, same-true, same-self}
 use Rattle.scope.proofs.Texts.{pretty-law}
-use Rattle.scope.proofs.SourceRows.{Named, name-number, shows-len}
-use Rattle.scope.proofs.SourceWalks.{From, over, next, from-all}
+use Rattle.source.proofs.Rows.{Named, name-number, shows-len}
+use Rattle.source.proofs.Walks.{From, over, next, from-all}
 
 -- a constructor has no labels, or one for each field
 pub data Labelled : List Text → ℕ → Type 0 where

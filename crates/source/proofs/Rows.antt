@@ -8,14 +8,14 @@ use native.Mathlib.Omega.{arith}
 use lib.ListN.{length, getD, replicate, length-append, length-map, List·getD-map}
 use lib.Dec.{eqb, eqb·zero-suc, eqb·suc-zero, eqb·suc-suc}
 use borrow.Author.Tests.{eqb-true, eq-eqb}
 use Rattle.scope.specs.Lists.{Text, any, same, twice}
 use Rattle.scope.specs.Types.{Ref, Ty, integer, byteString, opaque, list, tuple, pair, dat, Table, typeAt, kind, nameOf, built, ctorsAt, ctors, ctorAt, fieldsAt, arity}
 use Rattle.scope.specs.Patterns.{Literal, int, byteArray, literalKind, sameLiteral, wild, Row, Matrix}
 use Rattle.scope.specs.Walks as flat
-use Rattle.scope.specs.Source as rust
-use Rattle.scope.specs.Source.{Patterns, []ᵖ, _∷ᵖ_, _++ᵖ_, len, wildcards, Panic}
-use Rattle.scope.specs.Agreement.{Made, Shows, done, wilds, lits, cons, ShowsRows, noRows, also}
+use Rattle.source.specs.Source as rust
+use Rattle.source.specs.Source.{Patterns, []ᵖ, _∷ᵖ_, _++ᵖ_, len, wildcards, Panic}
+use Rattle.source.specs.Agreement.{Made, Shows, done, wilds, lits, cons, ShowsRows, noRows, also}
 use Rattle.scope.proofs.Tests.{neither, same-self}
 
 -- Names of one type
 pub eqb-sym : (a b : ℕ) → eqb a b ≡ eqb b a

@@ -8,15 +8,15 @@ use native.Mathlib.Omega.{arith}
 use lib.ListN.{length, length-map}
 use lib.Dec.{eqb}
 use borrow.Author.Tests.{eqb-true, eqb-false, eq-eqb, ne-eqb}
 use Rattle.scope.specs.Lists.{Text, bit, same}
 use Rattle.scope.specs.Types.{Ref, Table, fieldsOf, ctors, ctorAt, alts}
 use Rattle.scope.specs.Patterns.{Matrix}
 use Rattle.scope.specs.Walks.{seen, allSeen, columnType, Column, bare, part, full, columnAt, column}
-use Rattle.scope.specs.Source as rust
-use Rattle.scope.specs.Source.{ValueConstructor, Panic, Entry, containsKey, before, place, replace, insert, collectInto, collectCtors, constructorsFor}
-use Rattle.scope.specs.Agreement.{wilds, lits, cons, ShowsRows, noRows, also}
+use Rattle.source.specs.Source as rust
+use Rattle.source.specs.Source.{ValueConstructor, Panic, Entry, containsKey, before, place, replace, insert, collectInto, collectCtors, constructorsFor}
+use Rattle.source.specs.Agreement.{wilds, lits, cons, ShowsRows, noRows, also}
 use Rattle.scope.proofs.Tests.{clash, both, same-true}
-use Rattle.scope.proofs.SourceRows.{Named, eqb-sym, name-number}
+use Rattle.source.proofs.Rows.{Named, eqb-sym, name-number}
 
 -- how many of the constructors, from number c on, pass the test
 abbrev counted : (ℕ → Bool) → ℕ → List (List Ref) → ℕ

@@ -4,17 +4,17 @@ use mathlib.Core.Path.{_≡_}
 use mathlib.Core.Bool.{Bool, true, false}
 use Prim.Native.Nat.{ℕ, _<_}
 use lib.ListN.{length, getD, take}
 use Rattle.scope.specs.Lists.{Text, flatten}
 use Rattle.scope.specs.Lines.{Line, lines, bytesOf}
 use Rattle.scope.specs.Types.{Ref, Table, typeAt, kind, ctors, ctorAt, fieldsAt, arity}
 use Rattle.scope.specs.Patterns.{Literal, literalKind, wild, lit, con, Row, Matrix, Raw}
 use Rattle.scope.specs.Frames.{Frame, frame}
 use Rattle.scope.specs.Blocks.{Block, Step, ok, refuse, wholly}
 use Rattle.scope.specs.Walks.{Walk, plain, turned, joined, cost, isUseful}
 use Rattle.scope.specs.Text.{source, pretty}
 use Rattle.scope.specs.Report.{findings}
-use Rattle.scope.specs.Source.{ValueConstructor, wildcard, literal, constructor, Patterns, []ᵖ, _∷ᵖ_, _++ᵖ_, len, Panic, constructorsFor, TypedPattern, TypedPatterns, []ᵗ, _∷ᵗ_, count}
-use Rattle.scope.specs.Source as rust
+use Rattle.source.specs.Source.{ValueConstructor, wildcard, literal, constructor, Patterns, []ᵖ, _∷ᵖ_, _++ᵖ_, len, Panic, constructorsFor, TypedPattern, TypedPatterns, []ᵗ, _∷ᵗ_, count}
+use Rattle.source.specs.Source as rust
 
 -- constructor c of type t as the source has it: its name, the constructors of its type, as many arguments as its arity
 pub record Made (table : Table) (t : Ref) (c : ℕ) (name : Text) (alts : List ValueConstructor) (args : Patterns) : Type 0 where

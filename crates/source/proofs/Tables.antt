@@ -7,13 +7,13 @@ use native.Mathlib.Omega.{arith}
 use lib.ListN.{length, getD}
 use lib.Dec.{leb}
 use borrow.Author.Tests.{leb-true, ne-eqb, not-true}
 use Rattle.scope.specs.Lists.{Text, bit, any, same, twice}
 use Rattle.scope.specs.Types.{Ref, Ctor, Ty, integer, byteString, opaque, list, tuple, pair, dat, Table, typeAt, nameOf, built, ctorsAt, consName, nilName, tupleName, declared, addCtor}
 use Rattle.scope.specs.Frames.{Read, fault, found, Reader, andThen, _>>=_, give, byte, passing, within, flag, times, choosing, isUpper, isBig, name, bigName, smallName, typeKinds, typeFrame, fieldsFor, constructorFrame}
 use Rattle.scope.specs.Blocks.{isFresh}
 use Rattle.scope.proofs.Tests.{clash, both, neither}
-use Rattle.scope.proofs.SourceRows.{same-sym}
-use Rattle.scope.proofs.SourceTexts.{Labelled, bare, each, Formed, Proper}
+use Rattle.source.proofs.Rows.{same-sym}
+use Rattle.source.proofs.Texts.{Labelled, bare, each, Formed, Proper}
 
 -- what is read, if anything is, is so
 abbrev pub Of : {A : Type 0} → (A → Type 0) → Read A → Type 0

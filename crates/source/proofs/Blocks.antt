@@ -8,18 +8,18 @@ use native.Mathlib.Omega.{arith}
 use lib.ListN.{length}
 use lib.Dec.{leb, eqb}
 use borrow.Author.Tests.{ne-eqb}
 use Rattle.scope.specs.Lists.{any}
 use Rattle.scope.specs.Limits.{maxNodes}
 use Rattle.scope.specs.Lines.{Line, isLine, bytesOf}
 use Rattle.scope.specs.Types.{Ref, Ctor, Ty, Table, kind, declared, addCtor}
 use Rattle.scope.specs.Patterns.{Row, Matrix, Raw, simplify}
 use Rattle.scope.specs.Frames.{Read, fault, found, byte, Frame, typeOf, constructorOf, subjectOf, clauseOf, end, isKind, patterns, frame}
 use Rattle.scope.specs.Blocks.{Block, Phase, types, constructors, clauses, closed, standing, State, start, Step, ok, refuse, _>>=_, need, wholly, suited, nodesIn, stands, hasRoom, isFresh, isSound, afterType, withTable, withRow, enter, framed, line, parsed, finish, goOn, parse, blockOf}
-use Rattle.scope.specs.Agreement.{clauseIn, clausesIn}
-use Rattle.scope.specs.Agreement as agreement
+use Rattle.source.specs.Agreement.{clauseIn, clausesIn}
+use Rattle.source.specs.Agreement as agreement
 use Rattle.scope.proofs.Tests.{clash}
-use Rattle.scope.proofs.SourceTexts.{Formed}
-use Rattle.scope.proofs.SourceTables.{Of, Yields, give-yields, any-yields, bind-yields, constructor-yields, type-yields, GoodTypes, no-types, ctor-good, type-good}
+use Rattle.source.proofs.Texts.{Formed}
+use Rattle.source.proofs.Tables.{Of, Yields, give-yields, any-yields, bind-yields, constructor-yields, type-yields, GoodTypes, no-types, ctor-good, type-good}
 
 -- each clause suits the subject's type and becomes its row
 pub data Simplifies (table : Table) (t : Ref) : List (List Raw) → Matrix → Type 0 where

@@ -7,25 +7,25 @@ use native.Mathlib.Nat.{mul-le-mul-right}
 use native.Mathlib.Omega.{arith}
 use lib.ListN.{length, getD, take, drop}
 use lib.Seq.{append-snoc, split-at}
 use Rattle.scope.specs.Lists.{Text}
 use Rattle.scope.specs.Lines.{lines}
 use Rattle.scope.specs.Types.{Ref, Table}
 use Rattle.scope.specs.Patterns.{Row, Matrix, Raw}
 use Rattle.scope.specs.Walks.{Walk, turned, joined, ctorsIn, weight, widest, cost, isUseful}
 use Rattle.scope.specs.Text.{source, alone, prettyAt}
 use Rattle.scope.specs.Blocks.{Block, parsed, blockOf}
 use Rattle.scope.specs.Report as report
-use Rattle.scope.specs.Source as rust
-use Rattle.scope.specs.Source.{Patterns, []ᵖ, _∷ᵖ_, Panic, prettyArgs, prettyEach, TypedPattern}
-use Rattle.scope.specs.Agreement as agreement
-use Rattle.scope.specs.Agreement.{Shows, ShowsRows, noRows, also, written, SourceAgrees}
+use Rattle.source.specs.Source as rust
+use Rattle.source.specs.Source.{Patterns, []ᵖ, _∷ᵖ_, Panic, prettyArgs, prettyEach, TypedPattern}
+use Rattle.source.specs.Agreement as agreement
+use Rattle.source.specs.Agreement.{Shows, ShowsRows, noRows, also, written, SourceAgrees}
 use Rattle.scope.proofs.Costs.{sum-append}
-use Rattle.scope.proofs.SourceRows.{Named, shows-len, rows-append}
-use Rattle.scope.proofs.SourceWalks.{useful-agrees, missing-agrees}
-use Rattle.scope.proofs.SourceTexts.{Proper, pretty-agrees, FreeRows, and-row, all-free}
-use Rattle.scope.proofs.SourceClauses.{simplify-shows}
-use Rattle.scope.proofs.SourceTables.{proper}
-use Rattle.scope.proofs.SourceBlocks.{Simplifies, no-clauses, also-clause, block-sound}
+use Rattle.source.proofs.Rows.{Named, shows-len, rows-append}
+use Rattle.source.proofs.Walks.{useful-agrees, missing-agrees}
+use Rattle.source.proofs.Texts.{Proper, pretty-agrees, FreeRows, and-row, all-free}
+use Rattle.source.proofs.Clauses.{simplify-shows}
+use Rattle.source.proofs.Tables.{proper}
+use Rattle.source.proofs.Blocks.{Simplifies, no-clauses, also-clause, block-sound}
 
 -- the trees of a block's clauses
 record Trees (table : Table) (t : Ref) (raws : List (List Raw)) (m : Matrix) : Type 0 where
