@@ -1,0 +1,2 @@
+-- Laws of writing that other crates cite too.
+pub mod Laws

@@ -1,0 +1,4 @@
+// A line's hexadecimal, and what each frame holds: refusals 3 and 4.
+pub mod hex;
+pub mod read;
+pub mod shape;

@@ -1,0 +1,3 @@
+-- How types and simplified patterns lie in slices of numbers.
+pub mod Types
+pub mod Nodes

@@ -1,0 +1,2 @@
+-- Laws of comparing and of tests over a text.
+pub mod Laws

@@ -1,0 +1,52 @@
+-- `names::is_positive` meets its contract: a first byte from 1 to 9, then digits.
+use mathlib.Core.Path.{sym, _∙_}
+use borrow.Author.Tests.{not-true, not-false}
+use Rattle.names.proofs.Laws.{and-left, and-right, positive-law, positive-none}
+use borrow.Author.Needs.{needs}
+use native.Mathlib.Omega.{arith}
+use Rattle.names.proofs.is_positive.Statement.{statement}
+use Rattle.names.proofs.is_positive.Tie as tie
+
+returns : tie.Need-returns
+returns c =
+    sym (positive-none (c .before .before .args .t .now) (c .if1 .taken))
+
+shared-slice-read-among : tie.Need-shared-slice-read-among
+shared-slice-read-among c = search needs
+
+among-requires : tie.Need-among-requires
+among-requires c κs = search needs
+
+returns-2 : tie.Need-returns-2
+returns-2 c =
+    and-left _ _ (sym (c .before .among .ensures) ∙ not-true _ (c .if2 .taken)) ∙ sym (positive-law (c .before .before .before .before .before .args .t .now) (omega arith))
+
+sub-all-digits : tie.Need-sub-all-digits
+sub-all-digits c = search needs
+
+part-all-digits-start : tie.Need-part-all-digits-start
+part-all-digits-start c = search needs
+
+part-all-digits-end : tie.Need-part-all-digits-end
+part-all-digits-end c = search needs
+
+all-digits-requires : tie.Need-all-digits-requires
+all-digits-requires c κs = search needs
+
+returns-3 : tie.Need-returns-3
+returns-3 c =
+    and-right _ _ _ (sym (c .before .before .before .among .ensures) ∙ not-false _ (c .before .before .if2 .left)) (sym (c .all-digits .ensures)) ∙ sym (positive-law (c .before .before .before .before .before .before .before .args .t .now) (omega arith))
+
+pub is-positive-spec : {M : Type 1} → statement M
+is-positive-spec =
+    tie.close
+    (tie.spec
+    returns
+    shared-slice-read-among
+    among-requires
+    returns-2
+    sub-all-digits
+    part-all-digits-start
+    part-all-digits-end
+    all-digits-requires
+    returns-3)

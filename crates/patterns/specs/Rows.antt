@@ -1,0 +1,123 @@
+-- The row that `simplify` stores: its nodes, `left` beside them, and what its answer says.
+use mathlib.Core.Path.{_≡_}
+use mathlib.Core.Bool.{true, cond}
+use mathlib.Core.List.{List, [], _∷_, _++_, map}
+use mathlib.Core.Option.{Option, none, some}
+use Prim.Native.Nat.{ℕ, zero, suc, _+_, _*_, _-_, _%_, _≤_, _<_}
+use lib.ListN.{length, getD, take, drop}
+use lib.Seq.{sets}
+use lib.Dec.{ltb}
+use Rattle.scope.specs.Types.{Table, refsGood}
+use Rattle.scope.specs.Patterns.{Row, Raw, inner, Item, put, opened, simplify}
+use Rattle.scope.specs.Frames.{found, patterns}
+use Rattle.layout.specs.Types.{Shape, Fielded}
+use Rattle.layout.specs.Nodes.{rowOf, leftOf, StandsAt}
+use Rattle.patterns.specs.Raws.{rawAt, sizeAt, Literals, Shaped, ownPlace, literalPlaces, placesIn}
+use Rattle.patterns.specs.Opens.{opens, pending, due, restOf, Due, Ends}
+use Rattle.patterns.specs.declared.Next.{Next}
+use Rattle.patterns.specs.declared.Next.the-variants.{Read, Done, Wrong}
+use Rattle.patterns.specs.declared.Simplified.{Simplified}
+use Rattle.patterns.specs.declared.Simplified.the-variants.{Row as Kept, Unsuited}
+
+-- how many arguments a node has: none at a wildcard and a literal
+abbrev pub arityOf : List ℕ → ℕ → ℕ
+arityOf arities zero = 0
+arityOf arities (suc i) = cond (ltb i 32767) (getD arities i 0) 0
+
+-- how many patterns are left at each node of a row of k patterns
+unfoldable pub leftsOf : List ℕ → ℕ → List ℕ → List ℕ
+leftsOf arities k [] = []
+leftsOf arities k (n ∷ ns) = k ∷ leftsOf arities (k - 1 + arityOf arities n) ns
+
+-- how many are left after the nodes
+unfoldable pub leftAfter : List ℕ → ℕ → List ℕ → ℕ
+leftAfter arities k [] = k
+leftAfter arities k (n ∷ ns) = leftAfter arities (k - 1 + arityOf arities n) ns
+
+-- in 16 bits
+abbrev pub low16 : ℕ → ℕ
+low16 n = n % 65536
+
+-- what is asked of a caller: a line's bytes whose shape has been checked, and slices long enough
+pub record Ready (bytes : List ℕ) (from subject : ℕ) (fields stack nodes : List ℕ) (used : ℕ) : Type 0 where
+  pub short : length bytes ≤ 32768
+  pub inBytes : from ≤ length bytes
+  pub line : length bytes ≤ from + 640
+  pub shaped : Shaped bytes from
+  pub subjectLow : subject < 64
+  pub fieldsShort : length fields ≤ 65536
+  pub stackLong : 1920 ≤ length stack
+  pub nodesShort : length nodes < 32768
+  pub room : used ≤ length nodes
+
+-- the slices hold a type table whose references are good, and the subject is one of its types
+pub record Given (kinds counts arities starts fields : List ℕ) (subject : ℕ) (table : Table) : Type 0 where
+  pub used : ℕ
+  pub shape : Shape kinds counts arities table
+  pub fielded : Fielded starts fields used table
+  pub inTable : subject < length table
+  pub good : refsGood table ≡ true
+
+-- what the pattern at a place has become, before the items after it: it suits its type and the nodes were put, or it does not
+abbrev pub Became : Option (List Item) → List Item → List ℕ → List ℕ → List ℕ → List ℕ → Next → Type 0
+Became o after bytes fields new stack (Read t depth place) = (is : List Item) × (o ≡ some is) × (is ++ after ≡ map put (rowOf bytes new) ++ restOf bytes fields stack (Read t depth place))
+Became o after bytes fields new stack (Done place) = (is : List Item) × (o ≡ some is) × (is ++ after ≡ map put (rowOf bytes new) ++ [])
+Became o after bytes fields new stack Wrong = o ≡ none
+
+-- a fact, if the step found no fault
+abbrev pub Unless : Next → Type 0 → Type 0
+Unless (Read t depth place) P = P
+Unless (Done place) P = P
+Unless Wrong P = Unit {0}
+
+-- of the patterns due, if the step found no fault
+abbrev pub DueIf : ℕ → List ℕ → Next → Type 0
+DueIf n stack (Read t depth place) = Due n stack (Read t depth place)
+DueIf n stack (Done place) = Due n stack (Done place)
+DueIf n stack Wrong = Unit {0}
+
+-- one pattern read at type t, and the nodes up to the next put from `place` on
+pub record Turned (bytes kinds counts arities starts fields : List ℕ) (at t depth place : ℕ) (stack nodes stack′ nodes′ : List ℕ) (r : Next) : Type 0 where
+  pub new : List ℕ
+  pub nodesAre : nodes′ ≡ sets nodes place new
+  pub few : length new ≤ 65536 * (depth + 1) + 2
+  pub whole : at + sizeAt bytes at ≤ length bytes → Literals bytes new
+  pub places : Unless r (placesIn new ≡ ownPlace at (rawAt bytes at))
+  pub ends : Ends (place + length new) (depth + 1) r
+  pub dueIs : DueIf (inner (rawAt bytes at) + due (opens stack depth)) stack′ r
+  pub became : (table : Table) (used : ℕ) → Shape kinds counts arities table → Fielded starts fields used table → t < length table
+      → Became (opened table t (rawAt bytes at)) (pending bytes fields (opens stack depth)) bytes fields new stack′ r
+
+-- the answer for what a definition of `simplify` gives: the row was put, and its length counted; or it does not suit
+abbrev pub Answers : List ℕ → List ℕ → Option Row → Simplified → Type 0
+Answers bytes new none r = r ≡ Unsuited
+Answers bytes new (some row) r = (r ≡ Kept (length row)) × (rowOf bytes new ≡ row)
+
+-- the nodes of the pattern from a place on, put from `used` on
+pub record Reading (bytes : List ℕ) (from : ℕ) (kinds counts arities starts fields : List ℕ) (subject used : ℕ) (nodes nodes′ : List ℕ) (r : Simplified) : Type 0 where
+  pub new : List ℕ
+  pub nodesAre : nodes′ ≡ sets nodes used new
+  pub whole : Literals bytes new
+  pub counted : (count : ℕ) → r ≡ Kept count → count ≡ length new
+  pub places : (count : ℕ) → r ≡ Kept count → (raws : List Raw) → patterns 1 (drop from bytes) ≡ found raws [] → placesIn new ≡ literalPlaces bytes from raws
+  pub means : (raws : List Raw) → patterns 1 (drop from bytes) ≡ found raws [] → (table : Table) → Given kinds counts arities starts fields subject table → Answers bytes new (simplify table subject raws) r
+
+-- `left` beside a row that has room, and nothing where there is none
+abbrev pub Beside : ℕ → ℕ → Table → Option Row → List ℕ → Type 0
+Beside used size table none lefts = lefts ≡ []
+Beside used size table (some row) lefts = (used + length row ≤ size → lefts ≡ take (length row) (leftOf table 1 row)) × (size < used + length row → lefts ≡ [])
+
+-- the pattern from a place on as a row from `used` on: what is answered, and what stands in `nodes` and `left` afterwards
+pub record Simplifies (bytes : List ℕ) (from : ℕ) (kinds counts arities starts fields : List ℕ) (subject used : ℕ) (nodes left nodes′ left′ : List ℕ) (r : Simplified) : Type 0 where
+  pub new : List ℕ
+  pub lefts : List ℕ
+  pub nodesAre : nodes′ ≡ sets nodes used new
+  pub leftAre : left′ ≡ sets left used lefts
+  pub whole : Literals bytes new
+  pub places : (count : ℕ) → r ≡ Kept count → (raws : List Raw) → patterns 1 (drop from bytes) ≡ found raws [] → placesIn new ≡ literalPlaces bytes from raws
+  pub means : (raws : List Raw) → patterns 1 (drop from bytes) ≡ found raws [] → (table : Table) → Given kinds counts arities starts fields subject table → Answers bytes new (simplify table subject raws) r × Beside used (length nodes) table (simplify table subject raws) lefts
+
+-- a row stands at a place, and its literals whole among the bytes
+pub record RowAt (bytes nodes left : List ℕ) (table : Table) (p : ℕ) (r : Row) : Type 0 where
+  pub stands : StandsAt bytes nodes left table p r
+  pub whole : Literals bytes (take (length r) (drop p nodes))

@@ -1,0 +1,71 @@
+-- `table::sound::round` meets its contract: the flags that are set and those still to come are the whole round.
+use mathlib.Core.Path.{_≡_, refl, ap, _∙_}
+use mathlib.Core.List.{map}
+use Prim.Native.Nat.{_+_, _-_, _≤_}
+use native.Mathlib.Nat.{sub-zero}
+use native.Mathlib.Omega.{arith}
+use lib.ListN.{length, length-set}
+use lib.Seq.{sets}
+use Rattle.table.specs.Places.{places}
+use Rattle.table.specs.Sound.{flags, valueIn}
+use Rattle.table.proofs.Loops.{places-next, places-end, run-step, run-end}
+use Rattle.table.proofs.sound.round.Statement.{statement}
+use Rattle.table.proofs.sound.round.Tie as tie
+
+abbrev Inv-loop : tie.InvT-loop
+Inv-loop kinds counts arities starts fields types known next₀ t₀ next t = (t ≤ types) × (length next ≡ 64) × (sets next t (map (valueIn kinds counts arities starts fields known) (places t (types - t))) ≡ flags (map (valueIn kinds counts arities starts fields known) (places 0 types)))
+
+abbrev μ-loop : tie.MeasureT-loop
+μ-loop kinds counts arities starts fields types known next₀ t₀ next t = types - t
+
+loop-holds : tie.Need-loop-holds Inv-loop μ-loop
+loop-holds c =
+    let a = c .before .before .before .before .before .args in
+    (omega arith, refl, ap (λ k. flags (map (valueIn (a .kinds .now) (a .counts .now) (a .arities .now) (a .starts .now) (a .fields .now) (a .known)) (places 0 k))) (sub-zero (a .types)))
+
+has-value-requires : tie.Need-has-value-requires Inv-loop μ-loop
+has-value-requires c κs =
+    let pre = c .before .before .before .before .before .before .before .pre in
+    let pre = pre in
+    omega (arith, pre)
+
+array-write-next : tie.Need-array-write-next Inv-loop μ-loop
+array-write-next c =
+    let pre = c .before .before .before .before .before .before .before .before .pre in
+    let pre = pre in
+    omega (arith, pre)
+
+add-t : tie.Need-add-t Inv-loop μ-loop
+add-t c =
+    let pre = c .before .before .before .before .before .before .before .before .pre in
+    let pre = pre in
+    omega (arith, pre)
+
+loop-less : tie.Need-loop-less Inv-loop μ-loop
+loop-less c = omega arith
+
+loop-again : tie.Need-loop-again Inv-loop μ-loop
+loop-again c =
+    let a = c .before .before .before .before .before .before .before .before .args in
+    let l = c .before .before .loop in
+    (omega arith, length-set (l .next) (l .t) (c .has-value .result) ∙ l .inv .1, run-step (valueIn (a .kinds .now) (a .counts .now) (a .arities .now) (a .starts .now) (a .fields .now) (a .known)) (l .next) _ (l .t) (l .t + 1) _ _ _ _ (omega arith) (places-next (l .t) (a .types) (omega arith)) (c .has-value .ensures) refl ∙ l .inv .2)
+
+returns : tie.Need-returns Inv-loop μ-loop
+returns c =
+    let a = c .before .before .before .before .before .before .before .args in
+    let l = c .before .loop in
+    run-end (valueIn (a .kinds .now) (a .counts .now) (a .arities .now) (a .starts .now) (a .fields .now) (a .known)) (l .next) (l .t) _ (places-end (l .t) (l .t) (a .types) (omega arith)) ∙ l .inv .2
+
+pub round-spec : {M : Type 1} → statement M
+round-spec =
+    tie.close
+    (tie.spec
+    Inv-loop
+    μ-loop
+    loop-holds
+    has-value-requires
+    array-write-next
+    add-t
+    loop-less
+    loop-again
+    returns)

@@ -1,0 +1,4 @@
+// The type table in slices of numbers, references, finite values: refusal 7.
+pub mod build;
+pub mod fresh;
+pub mod sound;
