@@ -1,0 +1,619 @@
+// `pretty` and `pretty_tail` over rows in prefix order: two functions that call one another, the nodes left falling.
+ghost use mathlib.Core.Path.{_≡_};
+ghost use mathlib.Core.Bool.{_&&_};
+ghost use Prim.Native.Nat.{_+_, _*_, _/_, _%_, _^_, _<_};
+ghost use lib.ListN.{length, getD};
+ghost use Rattle.scope.specs.Text.{alone, inTail};
+ghost use Rattle.text.specs.Naming.{lookOf};
+ghost use Rattle.text.specs.Rows.{slices};
+ghost use Rattle.text.specs.Printing.{modeOf, lookIn, nilNode, patternText, textsText, roundText, fieldTextAt, fieldsText, squareText, cellText, spelledText, ctorText, Many, FieldsOf, SpelledOf, CellOf, Printed, Room, Moved};
+use crate::name::Look;
+use crate::name::label_at;
+use crate::name::look_by_kind;
+use crate::name::look_by_name;
+use crate::name::name_of;
+use crate::put::all;
+use crate::put::byte;
+use cells::at8;
+use cells::at16;
+use cells::wide8;
+use cells::wide16;
+
+// What stands between two patterns.
+const COMMA: [u8; 2] = *b", ";
+
+// Where the text ends, and the place after the patterns.
+pub struct Spot {
+    pub at: usize,
+    pub p: usize,
+}
+
+// Whether the node at p is "[]" of a list.
+fn is_nil(kinds: &[u8], nodes: &[u16], p: usize) -> bool
+    ensures { λ r. ⌜ r ≡ nilNode (now (kinds .entry)) (getD (now (nodes .entry)) p 0) ⌝ }
+{
+    let node = at16(nodes, p);
+    if node == 0 {
+        return false;
+    }
+    let i = wide16(node) - 1;
+    if at8(kinds, i / 32) != 3 {
+        return false;
+    }
+    i % 32 == 1
+}
+
+// Whether the tail at p is left out after a further element: "[]" in the paste text.
+fn closes(paste: bool, kinds: &[u8], nodes: &[u16], p: usize) -> bool
+    ensures { λ r. ⌜ r ≡ (paste && nilNode (now (kinds .entry)) (getD (now (nodes .entry)) p 0)) ⌝ }
+{
+    if paste {
+        return is_nil(kinds, nodes, p);
+    }
+    false
+}
+
+// How the constructor with the number i looks.
+fn look(paste: bool, bytes: &[u8], kinds: &[u8], names: &[u16], i: usize) -> Look
+    ensures { λ r. ⌜ r ≡ lookOf (lookIn (modeOf paste) (now (bytes .entry)) (getD (now (kinds .entry)) (i / 32) 0) (i % 32) (getD (now (names .entry)) i 0)) ⌝ }
+{
+    let kind = at8(kinds, i / 32);
+    if paste {
+        return look_by_kind(kind, i % 32);
+    }
+    let fixed = names::FIXED;
+    let cons = *b"::";
+    let tuple = names::TUPLE;
+    let name = name_of(&fixed, bytes, kind, i % 32, wide16(at16(names, i)));
+    look_by_name(name, &cons, &tuple)
+}
+
+// n patterns with ", " between them.
+fn texts(
+    paste: bool,
+    bytes: &[u8],
+    kinds: &[u8],
+    arities: &[u8],
+    starts: &[u16],
+    names: &[u16],
+    labels: &[u16],
+    nodes: &[u16],
+    p: usize,
+    n: usize,
+    out: &mut [u8],
+    at: usize,
+) -> Spot
+    requires { ⌜ Room (length (now nodes)) p at n (514 * n) ⌝ }
+    ensures { λ r. ⌜ Moved (length (now (nodes .entry))) p at (r .p) (r .at) 0 n (514 * n) ⌝ }
+    ensures { λ r. ⌜ Printed (slices (now (bytes .entry)) (now (kinds .entry)) (now (arities .entry)) (now (starts .entry)) (now (names .entry)) (now (labels .entry)) (now (nodes .entry))) (Many n) p (r .p) (now (out .entry)) (now (out .exit)) at (r .at) (textsText (modeOf paste) n) ⌝ }
+{
+    if n == 0 {
+        return Spot { at, p };
+    }
+    let one = pretty(
+        paste,
+        bytes,
+        kinds,
+        arities,
+        starts,
+        names,
+        labels,
+        nodes,
+        p,
+        out,
+        at,
+    );
+    if n == 1 {
+        return one;
+    }
+    let comma = COMMA;
+    let next = all(out, one.at, &comma);
+    texts(
+        paste,
+        bytes,
+        kinds,
+        arities,
+        starts,
+        names,
+        labels,
+        nodes,
+        one.p,
+        n - 1,
+        out,
+        next,
+    )
+}
+
+// A field with its label: the label alone for a wildcard.
+fn field(
+    paste: bool,
+    bytes: &[u8],
+    kinds: &[u8],
+    arities: &[u8],
+    starts: &[u16],
+    names: &[u16],
+    labels: &[u16],
+    nodes: &[u16],
+    p: usize,
+    label: usize,
+    out: &mut [u8],
+    at: usize,
+) -> Spot
+    requires { ⌜ Room (length (now nodes)) p at 1 1022 ⌝ }
+    ensures { λ r. ⌜ Moved (length (now (nodes .entry))) p at (r .p) (r .at) 1 1 1022 ⌝ }
+    ensures { λ r. ⌜ Printed (slices (now (bytes .entry)) (now (kinds .entry)) (now (arities .entry)) (now (starts .entry)) (now (names .entry)) (now (labels .entry)) (now (nodes .entry))) (Many 1) p (r .p) (now (out .entry)) (now (out .exit)) at (r .at) (fieldTextAt (modeOf paste) (slices (now (bytes .entry)) (now (kinds .entry)) (now (arities .entry)) (now (starts .entry)) (now (names .entry)) (now (labels .entry)) (now (nodes .entry))) label) ⌝ }
+{
+    let next = all(out, at, label_at(bytes, label));
+    if at16(nodes, p) == 0 {
+        let q = p + 1;
+        return Spot { at: next, p: q };
+    }
+    let colon = *b": ";
+    let after = all(out, next, &colon);
+    pretty(
+        paste,
+        bytes,
+        kinds,
+        arities,
+        starts,
+        names,
+        labels,
+        nodes,
+        p,
+        out,
+        after,
+    )
+}
+
+// n fields with labels, from field i on, with ", " between them.
+fn fields(
+    paste: bool,
+    bytes: &[u8],
+    kinds: &[u8],
+    arities: &[u8],
+    starts: &[u16],
+    names: &[u16],
+    labels: &[u16],
+    nodes: &[u16],
+    p: usize,
+    i: usize,
+    n: usize,
+    out: &mut [u8],
+    at: usize,
+) -> Spot
+    requires { ⌜ Room (length (now nodes)) p at n (1024 * n) ⌝ }
+    requires { ⌜ i + n < 2 ^ 32 ⌝ }
+    ensures { λ r. ⌜ Moved (length (now (nodes .entry))) p at (r .p) (r .at) 0 n (1024 * n) ⌝ }
+    ensures { λ r. ⌜ Printed (slices (now (bytes .entry)) (now (kinds .entry)) (now (arities .entry)) (now (starts .entry)) (now (names .entry)) (now (labels .entry)) (now (nodes .entry))) (Many n) p (r .p) (now (out .entry)) (now (out .exit)) at (r .at) (fieldsText (modeOf paste) (slices (now (bytes .entry)) (now (kinds .entry)) (now (arities .entry)) (now (starts .entry)) (now (names .entry)) (now (labels .entry)) (now (nodes .entry))) i n) ⌝ }
+{
+    if n == 0 {
+        return Spot { at, p };
+    }
+    let one = field(
+        paste,
+        bytes,
+        kinds,
+        arities,
+        starts,
+        names,
+        labels,
+        nodes,
+        p,
+        wide16(at16(labels, i)),
+        out,
+        at,
+    );
+    if n == 1 {
+        return one;
+    }
+    let comma = COMMA;
+    let next = all(out, one.at, &comma);
+    fields(
+        paste,
+        bytes,
+        kinds,
+        arities,
+        starts,
+        names,
+        labels,
+        nodes,
+        one.p,
+        i + 1,
+        n - 1,
+        out,
+        next,
+    )
+}
+
+// n patterns in round brackets.
+fn round(
+    paste: bool,
+    bytes: &[u8],
+    kinds: &[u8],
+    arities: &[u8],
+    starts: &[u16],
+    names: &[u16],
+    labels: &[u16],
+    nodes: &[u16],
+    p: usize,
+    n: usize,
+    out: &mut [u8],
+    at: usize,
+) -> Spot
+    requires { ⌜ Room (length (now nodes)) p at 255 131072 ⌝ }
+    requires { ⌜ n < 256 ⌝ }
+    ensures { λ r. ⌜ Moved (length (now (nodes .entry))) p at (r .p) (r .at) 0 255 131072 ⌝ }
+    ensures { λ r. ⌜ Printed (slices (now (bytes .entry)) (now (kinds .entry)) (now (arities .entry)) (now (starts .entry)) (now (names .entry)) (now (labels .entry)) (now (nodes .entry))) (Many n) p (r .p) (now (out .entry)) (now (out .exit)) at (r .at) (roundText (modeOf paste) n) ⌝ }
+{
+    let open = byte(out, at, b'(');
+    let inner = texts(
+        paste,
+        bytes,
+        kinds,
+        arities,
+        starts,
+        names,
+        labels,
+        nodes,
+        p,
+        n,
+        out,
+        open,
+    );
+    let close = byte(out, inner.at, b')');
+    Spot {
+        at: close,
+        p: inner.p,
+    }
+}
+
+// A list: its first element, then its tail.
+fn square(
+    paste: bool,
+    bytes: &[u8],
+    kinds: &[u8],
+    arities: &[u8],
+    starts: &[u16],
+    names: &[u16],
+    labels: &[u16],
+    nodes: &[u16],
+    p: usize,
+    out: &mut [u8],
+    at: usize,
+) -> Spot
+    requires { ⌜ Room (length (now nodes)) p at 255 262144 ⌝ }
+    ensures { λ r. ⌜ Moved (length (now (nodes .entry))) p at (r .p) (r .at) 0 255 262144 ⌝ }
+    ensures { λ r. ⌜ Printed (slices (now (bytes .entry)) (now (kinds .entry)) (now (arities .entry)) (now (starts .entry)) (now (names .entry)) (now (labels .entry)) (now (nodes .entry))) CellOf p (r .p) (now (out .entry)) (now (out .exit)) at (r .at) (squareText (modeOf paste)) ⌝ }
+{
+    let open = byte(out, at, b'[');
+    let first = pretty(
+        paste,
+        bytes,
+        kinds,
+        arities,
+        starts,
+        names,
+        labels,
+        nodes,
+        p,
+        out,
+        open,
+    );
+    if is_nil(kinds, nodes, first.p) {
+        let close = byte(out, first.at, b']');
+        let q = first.p + 1;
+        return Spot { at: close, p: q };
+    }
+    let comma = COMMA;
+    let next = all(out, first.at, &comma);
+    let tail = pretty_tail(
+        paste,
+        bytes,
+        kinds,
+        arities,
+        starts,
+        names,
+        labels,
+        nodes,
+        first.p,
+        out,
+        next,
+    );
+    let close = byte(out, tail.at, b']');
+    Spot {
+        at: close,
+        p: tail.p,
+    }
+}
+
+// A constructor's name and fields.
+fn spelled(
+    paste: bool,
+    bytes: &[u8],
+    kinds: &[u8],
+    arities: &[u8],
+    starts: &[u16],
+    names: &[u16],
+    labels: &[u16],
+    nodes: &[u16],
+    p: usize,
+    i: usize,
+    out: &mut [u8],
+    at: usize,
+) -> Spot
+    requires { ⌜ Room (length (now nodes)) p at 255 262144 ⌝ }
+    requires { ⌜ i < 32767 ⌝ }
+    ensures { λ r. ⌜ Moved (length (now (nodes .entry))) p at (r .p) (r .at) 0 255 262144 ⌝ }
+    ensures { λ r. ⌜ Printed (slices (now (bytes .entry)) (now (kinds .entry)) (now (arities .entry)) (now (starts .entry)) (now (names .entry)) (now (labels .entry)) (now (nodes .entry))) (SpelledOf (modeOf paste) i) p (r .p) (now (out .entry)) (now (out .exit)) at (r .at) (spelledText (modeOf paste) i) ⌝ }
+{
+    let fixed = names::FIXED;
+    let kind = at8(kinds, i / 32);
+    let name = name_of(&fixed, bytes, kind, i % 32, wide16(at16(names, i)));
+    let next = all(out, at, name);
+    let n = wide8(at8(arities, i));
+    if n == 0 {
+        return Spot { at: next, p };
+    }
+    let start = wide16(at16(starts, i));
+    if at16(labels, start) == 0 {
+        return round(
+            paste,
+            bytes,
+            kinds,
+            arities,
+            starts,
+            names,
+            labels,
+            nodes,
+            p,
+            n,
+            out,
+            next,
+        );
+    }
+    let brace = *b" { ";
+    let open = all(out, next, &brace);
+    let inner = fields(
+        paste,
+        bytes,
+        kinds,
+        arities,
+        starts,
+        names,
+        labels,
+        nodes,
+        p,
+        start,
+        n,
+        out,
+        open,
+    );
+    let end = *b" }";
+    let close = all(out, inner.at, &end);
+    Spot {
+        at: close,
+        p: inner.p,
+    }
+}
+
+// A constructor by itself, whose arguments stand from p on.
+fn ctor(
+    paste: bool,
+    bytes: &[u8],
+    kinds: &[u8],
+    arities: &[u8],
+    starts: &[u16],
+    names: &[u16],
+    labels: &[u16],
+    nodes: &[u16],
+    p: usize,
+    i: usize,
+    out: &mut [u8],
+    at: usize,
+) -> Spot
+    requires { ⌜ Room (length (now nodes)) p at 255 262144 ⌝ }
+    requires { ⌜ i < 32767 ⌝ }
+    ensures { λ r. ⌜ Moved (length (now (nodes .entry))) p at (r .p) (r .at) 0 255 262144 ⌝ }
+    ensures { λ r. ⌜ Printed (slices (now (bytes .entry)) (now (kinds .entry)) (now (arities .entry)) (now (starts .entry)) (now (names .entry)) (now (labels .entry)) (now (nodes .entry))) (FieldsOf i) p (r .p) (now (out .entry)) (now (out .exit)) at (r .at) (ctorText (modeOf paste) i) ⌝ }
+{
+    let shape = look(paste, bytes, kinds, names, i);
+    match shape {
+        Look::Round => round(
+            paste,
+            bytes,
+            kinds,
+            arities,
+            starts,
+            names,
+            labels,
+            nodes,
+            p,
+            wide8(at8(arities, i)),
+            out,
+            at,
+        ),
+        Look::Square => square(
+            paste,
+            bytes,
+            kinds,
+            arities,
+            starts,
+            names,
+            labels,
+            nodes,
+            p,
+            out,
+            at,
+        ),
+        Look::Spelled => spelled(
+            paste,
+            bytes,
+            kinds,
+            arities,
+            starts,
+            names,
+            labels,
+            nodes,
+            p,
+            i,
+            out,
+            at,
+        ),
+    }
+}
+
+// The text of the pattern at p. A literal is never missing, and has no text.
+pub fn pretty(
+    paste: bool,
+    bytes: &[u8],
+    kinds: &[u8],
+    arities: &[u8],
+    starts: &[u16],
+    names: &[u16],
+    labels: &[u16],
+    nodes: &[u16],
+    p: usize,
+    out: &mut [u8],
+    at: usize,
+) -> Spot
+    requires { ⌜ Room (length (now nodes)) p at 1 512 ⌝ }
+    ensures { λ r. ⌜ Moved (length (now (nodes .entry))) p at (r .p) (r .at) 1 1 512 ⌝ }
+    ensures { λ r. ⌜ Printed (slices (now (bytes .entry)) (now (kinds .entry)) (now (arities .entry)) (now (starts .entry)) (now (names .entry)) (now (labels .entry)) (now (nodes .entry))) (Many 1) p (r .p) (now (out .entry)) (now (out .exit)) at (r .at) (patternText (modeOf paste) alone) ⌝ }
+{
+    let q = p + 1;
+    let node = at16(nodes, p);
+    if node == 0 {
+        let next = byte(out, at, b'_');
+        return Spot { at: next, p: q };
+    }
+    if 32768 <= node {
+        return Spot { at, p: q };
+    }
+    ctor(
+        paste,
+        bytes,
+        kinds,
+        arities,
+        starts,
+        names,
+        labels,
+        nodes,
+        q,
+        wide16(node) - 1,
+        out,
+        at,
+    )
+}
+
+// A further cell of a list, in the same brackets.
+fn cell(
+    paste: bool,
+    bytes: &[u8],
+    kinds: &[u8],
+    arities: &[u8],
+    starts: &[u16],
+    names: &[u16],
+    labels: &[u16],
+    nodes: &[u16],
+    p: usize,
+    out: &mut [u8],
+    at: usize,
+) -> Spot
+    requires { ⌜ Room (length (now nodes)) p at 255 262144 ⌝ }
+    ensures { λ r. ⌜ Moved (length (now (nodes .entry))) p at (r .p) (r .at) 0 255 262144 ⌝ }
+    ensures { λ r. ⌜ Printed (slices (now (bytes .entry)) (now (kinds .entry)) (now (arities .entry)) (now (starts .entry)) (now (names .entry)) (now (labels .entry)) (now (nodes .entry))) CellOf p (r .p) (now (out .entry)) (now (out .exit)) at (r .at) (cellText (modeOf paste)) ⌝ }
+{
+    let first = pretty(
+        paste,
+        bytes,
+        kinds,
+        arities,
+        starts,
+        names,
+        labels,
+        nodes,
+        p,
+        out,
+        at,
+    );
+    if closes(paste, kinds, nodes, first.p) {
+        let q = first.p + 1;
+        return Spot { at: first.at, p: q };
+    }
+    let comma = COMMA;
+    let next = all(out, first.at, &comma);
+    pretty_tail(
+        paste,
+        bytes,
+        kinds,
+        arities,
+        starts,
+        names,
+        labels,
+        nodes,
+        first.p,
+        out,
+        next,
+    )
+}
+
+// The text of the pattern at p as the tail of a list.
+fn pretty_tail(
+    paste: bool,
+    bytes: &[u8],
+    kinds: &[u8],
+    arities: &[u8],
+    starts: &[u16],
+    names: &[u16],
+    labels: &[u16],
+    nodes: &[u16],
+    p: usize,
+    out: &mut [u8],
+    at: usize,
+) -> Spot
+    requires { ⌜ Room (length (now nodes)) p at 1 512 ⌝ }
+    ensures { λ r. ⌜ Moved (length (now (nodes .entry))) p at (r .p) (r .at) 1 1 512 ⌝ }
+    ensures { λ r. ⌜ Printed (slices (now (bytes .entry)) (now (kinds .entry)) (now (arities .entry)) (now (starts .entry)) (now (names .entry)) (now (labels .entry)) (now (nodes .entry))) (Many 1) p (r .p) (now (out .entry)) (now (out .exit)) at (r .at) (patternText (modeOf paste) inTail) ⌝ }
+{
+    let q = p + 1;
+    let node = at16(nodes, p);
+    if node == 0 {
+        let dots = *b"..";
+        let next = all(out, at, &dots);
+        return Spot { at: next, p: q };
+    }
+    if 32768 <= node {
+        return Spot { at, p: q };
+    }
+    let i = wide16(node) - 1;
+    let l = look(paste, bytes, kinds, names, i);
+    if let Look::Square = l {
+        return cell(
+            paste,
+            bytes,
+            kinds,
+            arities,
+            starts,
+            names,
+            labels,
+            nodes,
+            q,
+            out,
+            at,
+        );
+    }
+    ctor(
+        paste,
+        bytes,
+        kinds,
+        arities,
+        starts,
+        names,
+        labels,
+        nodes,
+        q,
+        i,
+        out,
+        at,
+    )
+}

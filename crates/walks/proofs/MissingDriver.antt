@@ -1,0 +1,125 @@
+-- The driver's part: the clauses' rows at the front of the scratch, and what the answer says of every block that the slices hold.
+use mathlib.Core.Path.{_≡_, refl, sym, ap, ap₂, subst, _∙_}
+use mathlib.Core.Bool.{cond, _&&_}
+use mathlib.Core.List.{List, [], _∷_, _++_, map, map-append}
+use Prim.Native.Nat.{ℕ, suc, _+_, _≤_, _<_}
+use native.Mathlib.Nat.{zero-add}
+use native.Mathlib.Omega.{arith}
+use lib.ListN.{length, getD, take, drop, length-map}
+use lib.Seq.{sets, sets-eq, take-at, take-length, length-take-le}
+use lib.Dec.{leb}
+use Rattle.scope.specs.Lists.{flatten}
+use Rattle.scope.specs.Types.{Ref, Table}
+use Rattle.scope.specs.Patterns.{Row, Matrix}
+use Rattle.scope.specs.Walks.{Walk, turned, collectMissingPatterns}
+use Rattle.scope.specs.Blocks.{nodesIn}
+use Rattle.layout.specs.Nodes.{rowOf}
+use Rattle.walks.specs.Numbers.{Rows, missingOf, matrix}
+use Rattle.walks.specs.Places.{Places, noPlaces, andPlace}
+use Rattle.walks.specs.Limits.{within}
+use Rattle.walks.specs.Ready.{Sizes}
+use Rattle.walks.specs.Driver.{Start, Starts}
+use Rattle.walks.specs.Bridge.{Says, SayRows, noRows, also}
+use Rattle.walks.specs.Path.{under, pathOf}
+use Rattle.walks.specs.Missing.{nodesOf, Opened, Trail, Sought, sought, missingRows, outAfter, foundOf, FindsAll}
+use Rattle.walks.specs.declared.missing.Seek.{Seek}
+use Rattle.walks.specs.declared.missing.Seek.the-variants.{Done, Over}
+use Rattle.walks.proofs.Fronts.{front-length}
+use Rattle.walks.proofs.Specialised.{row-is}
+use Rattle.walks.proofs.BridgeTable.{clause-says}
+use Rattle.walks.proofs.PathSpread.{flatten-length}
+use Rattle.walks.proofs.MissingLimits.{done-is}
+use Rattle.walks.proofs.MissingBridge.{same-missing}
+
+-- the rows of the clauses' places
+module _ (nodes left counts ars : List ℕ) where
+  start-places : (ps : List ℕ) → ((i : ℕ) → i < length ps → Start nodes left counts ars (getD ps i 0)) → Places nodes left counts ars 1 ps
+  start-places [] st = noPlaces
+  start-places (p ∷ ps) st = andPlace (st 0 (omega arith) .runs) (omega (arith, st 0 (omega arith) .one)) (start-places ps (λ i l. st (suc i) (omega arith)))
+
+  start-rows : (ps : List ℕ) → ((i : ℕ) → i < length ps → Start nodes left counts ars (getD ps i 0)) → matrix nodes left 1 ps ≡ map (λ p. drop p nodes) ps
+  start-rows [] st = refl
+  start-rows (p ∷ ps) st = ap₂ (λ (x : List ℕ) (y : Rows). x ∷ y) (row-is nodes left 1 p 0 (omega (arith, st 0 (omega arith) .one))) (start-rows ps (λ i l. st (suc i) (omega arith)))
+
+-- the clauses' rows, copied to the front of the scratch
+module _ (bytes nodes left counts ars starts : List ℕ) (sz : Sizes nodes ars) (st : Starts nodes left counts ars starts) (s e : List ℕ) (few : length starts ≤ 64) (big : 16384 ≤ length s) (ee : e ≡ take (length starts) starts ++ drop (length starts) s) where
+  front : take (length starts) e ≡ starts
+  front = ap (take (length starts)) ee ∙ take-at (take (length starts) starts) (drop (length starts) s) (length starts) (length-take-le (length starts) starts (omega arith)) ∙ take-length starts
+
+  same-length : length e ≡ length s
+  same-length = ap length ee ∙ front-length starts s (length starts) (omega arith) (omega arith)
+
+  pub first-opened : Opened nodes left counts ars 1 e (length starts) 16384
+  first-opened = record {
+    sizes = sz;
+    places = subst (Places nodes left counts ars 1) (sym front) (start-places nodes left counts ars starts (st .each));
+    low = few;
+    fits = omega (arith, same-length);
+    space = omega (arith, same-length);
+    wide = omega arith;
+  }
+
+  -- what the walk leaves
+  module _ (e₂ path pe alts ae out oe : List ℕ) (r : Seek)
+      (h : Sought e (length starts) e₂ path pe alts ae 0 out oe 0 0 0 16384 r (turned (under ars (pathOf path alts 0)) (missingOf bytes counts ars 1 (matrix nodes left 1 (take (length starts) e))))) where
+    whole : turned (under ars (pathOf path alts 0)) (missingOf bytes counts ars 1 (matrix nodes left 1 (take (length starts) e))) ≡ missingRows bytes counts ars nodes starts
+    unfolding under pathOf
+    whole = ap (missingOf bytes counts ars 1) (ap (matrix nodes left 1) front ∙ start-rows nodes left counts ars starts (st .each))
+
+    pub missing-is : r ≡ sought 0 16384 0 0 (missingRows bytes counts ars nodes starts)
+    missing-is = h .is ∙ ap (sought 0 16384 0 0) whole
+
+    pub missing-text : (w k c : ℕ) → r ≡ Done w k c → oe ≡ outAfter out (missingRows bytes counts ars nodes starts .result) (Done w k c)
+    unfolding outAfter
+    missing-text w k c q = h .text w k c q ∙ ap (λ (x : Walk Rows). sets out 0 (flatten (x .result))) whole
+
+pub first-trail : (path alts : List ℕ) → 16384 ≤ length path → 16384 ≤ length alts → Trail path alts 0 16384 0 0
+first-trail path alts lp la = record { deep = omega arith; longPath = lp; longAlts = la; low = record { each = λ i l. absurd (omega arith) }; within = omega arith; few = omega arith }
+
+-- rows that are read from rows of numbers: as many nodes, and one row after another
+module _ (bytes : List ℕ) where
+  nodes-read : (m : Rows) → nodesIn (map (rowOf bytes) m) ≡ nodesOf m
+  nodes-read [] = refl
+  nodes-read (r ∷ m) = omega (arith, nodes-read m, length-map r (Rattle.layout.specs.Nodes.nodeOf bytes))
+
+  flat-read : (m : Rows) → rowOf bytes (flatten m) ≡ flatten (map (rowOf bytes) m)
+  flat-read [] = refl
+  flat-read (r ∷ m) = map-append (Rattle.layout.specs.Nodes.nodeOf bytes) r (flatten m) ∙ ap (λ (x : Row). rowOf bytes r ++ x) (flat-read m)
+
+  answer-read : (w : Walk Rows) → sought 0 16384 0 0 w ≡ foundOf (turned (map (rowOf bytes)) w)
+  unfolding sought foundOf
+  answer-read w =
+      let n : 0 + nodesOf (w .result) ≡ nodesIn (map (rowOf bytes) (w .result)) = omega (arith, nodes-read (w .result)) in
+      let k : 0 + length (w .result) ≡ length (map (rowOf bytes) (w .result)) = omega (arith, length-map (w .result) (rowOf bytes)) in
+      ap₂ (λ (x y : ℕ). cond (within 0 16384 w && leb x 4096) (Done x y (0 + w .calls)) Over) n k
+      ∙ ap (λ (c : ℕ). cond (within 0 16384 w && leb (nodesIn (map (rowOf bytes) (w .result))) 4096) (Done (nodesIn (map (rowOf bytes) (w .result))) (length (map (rowOf bytes) (w .result))) c) Over) (zero-add (w .calls))
+
+-- the front of a list that a run of stores has filled
+front-filled : (d vs : List ℕ) → length vs ≤ length d → take (length vs) (sets d 0 vs) ≡ vs
+front-filled d vs l = ap (take (length vs)) (sets-eq vs d 0 (omega arith)) ∙ take-at vs (drop (0 + length vs) d) (length vs) refl
+
+say-rows : (bytes nodes : List ℕ) (table : Table) (ts : List Ref) (starts : List ℕ) (m : Matrix) → length starts ≡ length m → ((i : ℕ) → i < length m → Says bytes table ts (drop (getD starts i 0) nodes) (getD m i [])) → SayRows bytes table ts (map (λ p. drop p nodes) starts) m
+say-rows bytes nodes table ts [] [] e h = noRows
+say-rows bytes nodes table ts [] (r ∷ m) e h = absurd (omega arith)
+say-rows bytes nodes table ts (p ∷ starts) [] e h = absurd (omega arith)
+say-rows bytes nodes table ts (p ∷ starts) (r ∷ m) e h = also (h 0 (omega arith)) (say-rows bytes nodes table ts starts m (omega arith) (λ i l. h (suc i) (omega arith)))
+
+pub finds-all : (bytes nodes left counts ars starts : List ℕ) → length ars < 32768 → (out oe : List ℕ) (r : Seek) → 4096 ≤ length out
+    → r ≡ sought 0 16384 0 0 (missingRows bytes counts ars nodes starts) → oe ≡ outAfter out (missingRows bytes counts ars nodes starts .result) r
+    → FindsAll bytes nodes left counts ars starts oe r
+unfolding outAfter
+finds-all bytes nodes left counts ars starts low out oe r big e f kinds table t m holds = record { answer = e ∙ answer-read bytes w ∙ ap foundOf same; rows = λ x k c q. text x k c q }
+  where
+    w : Walk Rows
+    w = missingRows bytes counts ars nodes starts
+
+    same : turned (map (rowOf bytes)) w ≡ collectMissingPatterns table 1 m
+    same = same-missing bytes kinds counts ars table (holds .shape) low (t ∷ []) (map (λ p. drop p nodes) starts) m (say-rows bytes nodes table (t ∷ []) starts m (holds .rows .many) (clause-says bytes kinds nodes left counts ars starts table t m holds low))
+
+    text : (x k c : ℕ) → r ≡ Done x k c → rowOf bytes (take x oe) ≡ flatten (collectMissingPatterns table 1 m .result)
+    text x k c q =
+        let i = done-is 0 16384 0 0 w x k c (sym q ∙ e) in
+        let n : x ≡ length (flatten (w .result)) = i .nodes ∙ zero-add (nodesOf (w .result)) ∙ sym (flatten-length (w .result)) in
+        let o : oe ≡ sets out 0 (flatten (w .result)) = f ∙ ap (outAfter out (w .result)) q in
+        ap (rowOf bytes) (ap₂ take n o ∙ front-filled out (flatten (w .result)) (omega (arith, i .low)))
+        ∙ flat-read bytes (w .result) ∙ ap (λ (v : Walk Matrix). flatten (v .result)) same
