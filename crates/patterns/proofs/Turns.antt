@@ -18,7 +18,7 @@ use Rattle.layout.specs.Nodes.{nodeOf, rowOf}
 use Rattle.patterns.specs.Raws.{rawAt, sizeAt, Literals, done, also, ownPlace, placesIn}
 use Rattle.patterns.specs.Suits.{keyOf, suitAt, meant, Sound}
 use Rattle.patterns.specs.Opens.{Open, opening, markOf, fieldItems, listItems, itemsOf, wanted, opens, pending, due, restOf, Due, Ends, Settled}
-use Rattle.patterns.specs.Rows.{low16, Became, DueIf, Unless, Turned}
+use Rattle.patterns.specs.Rows.{low16, Became, Unless, Turned}
 use Rattle.patterns.specs.declared.Suit.{Suit}
 use Rattle.patterns.specs.declared.Suit.the-variants.{Leaf, Again, Cells, Args, Unfit}
 use Rattle.patterns.specs.declared.Next.{Next}
@@ -145,7 +145,7 @@ module _ (bytes kinds counts arities starts fields : List ℕ) (at t depth place
       ends-more (Done p) q = q ∙ whole-length
       ends-more Wrong q = tt
 
-      due-more : (x : Next) → Due (due fs) stack′ x → DueIf (inner (rawAt bytes at) + due (opens stack depth)) stack′ x
+      due-more : (x : Next) → Due (due fs) stack′ x → Unless x (Due (inner (rawAt bytes at) + due (opens stack depth)) stack′ x)
       due-more (Read u k p) q = d ∙ q
       due-more (Done p) q = d ∙ q
       due-more Wrong q = tt

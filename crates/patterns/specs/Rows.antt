@@ -70,12 +70,6 @@ Unless (Read t depth place) P = P
 Unless (Done place) P = P
 Unless Wrong P = Unit {0}
 
--- of the patterns due, if the step found no fault
-abbrev pub DueIf : ℕ → List ℕ → Next → Type 0
-DueIf n stack (Read t depth place) = Due n stack (Read t depth place)
-DueIf n stack (Done place) = Due n stack (Done place)
-DueIf n stack Wrong = Unit {0}
-
 -- one pattern read at type t, and the nodes up to the next put from `place` on
 pub record Turned (bytes kinds counts arities starts fields : List ℕ) (at t depth place : ℕ) (stack nodes stack′ nodes′ : List ℕ) (r : Next) : Type 0 where
   pub new : List ℕ
@@ -84,7 +78,7 @@ pub record Turned (bytes kinds counts arities starts fields : List ℕ) (at t de
   pub whole : at + sizeAt bytes at ≤ length bytes → Literals bytes new
   pub places : Unless r (placesIn new ≡ ownPlace at (rawAt bytes at))
   pub ends : Ends (place + length new) (depth + 1) r
-  pub dueIs : DueIf (inner (rawAt bytes at) + due (opens stack depth)) stack′ r
+  pub dueIs : Unless r (Due (inner (rawAt bytes at) + due (opens stack depth)) stack′ r)
   pub became : (table : Table) (used : ℕ) → Shape kinds counts arities table → Fielded starts fields used table → t < length table
       → Became (opened table t (rawAt bytes at)) (pending bytes fields (opens stack depth)) bytes fields new stack′ r
 

@@ -1,43 +1,43 @@
 -- `patterns::after` meets its contract: the size by each kind of pattern.
+use native.Mathlib.Omega.{arith}
 use Rattle.patterns.proofs.Small.{past-seven, sized}
 use Prim.Native.Nat.{suc}
 use mathlib.Core.Path.{_∙_}
-use borrow.Author.Needs.{needs}
 use Rattle.patterns.proofs.after.Statement.{statement}
 use Rattle.patterns.proofs.after.Tie as tie
 
 at8-requires : tie.Need-at8-requires
-at8-requires c κs = search needs
+at8-requires c κs = tt
 
 add-at8 : tie.Need-add-at8
-add-at8 c = search needs
+add-at8 c = omega arith
 
 at8-requires-2 : tie.Need-at8-requires-2
-at8-requires-2 c κs = search needs
+at8-requires-2 c κs = tt
 
 wide8-requires : tie.Need-wide8-requires
-wide8-requires c κs = search needs
+wide8-requires c κs = tt
 
 add-named : tie.Need-add-named
-add-named c = search needs
+add-named c = omega arith
 
 add-named-2 : tie.Need-add-named-2
-add-named-2 c = search needs
+add-named-2 c = omega arith
 
 add-result : tie.Need-add-result
-add-result c = search needs
+add-result c = omega arith
 
 add-result-2 : tie.Need-add-result-2
-add-result-2 c = search needs
+add-result-2 c = omega arith
 
 add-result-3 : tie.Need-add-result-3
-add-result-3 c = search needs
+add-result-3 c = omega arith
 
 add-result-4 : tie.Need-add-result-4
-add-result-4 c = search needs
+add-result-4 c = omega arith
 
 add-result-5 : tie.Need-add-result-5
-add-result-5 c = search needs
+add-result-5 c = omega arith
 
 returns : tie.Need-returns
 returns c =

@@ -15,16 +15,16 @@ returns-2 c =
     (arity-literal (c .before .before .before .args .arities .now) (c .before .before .before .args .node) (c .if2 .taken), omega arith)
 
 wide16-requires : tie.Need-wide16-requires
-wide16-requires c κs = search needs
+wide16-requires c κs = tt
 
 sub-at8 : tie.Need-sub-at8
-sub-at8 c = search needs
+sub-at8 c = omega arith
 
 at8-requires : tie.Need-at8-requires
-at8-requires c κs = search needs
+at8-requires c κs = tt
 
 wide8-requires : tie.Need-wide8-requires
-wide8-requires c κs = search needs
+wide8-requires c κs = tt
 
 returns-3 : tie.Need-returns-3
 returns-3 c =

@@ -1,6 +1,6 @@
 -- `patterns::filled` meets its contract: all arguments, fewer with spread, any other count.
+use native.Mathlib.Omega.{arith}
 use Rattle.patterns.proofs.Small.{fill-all, fill-spread, fill-many, fill-bare}
-use borrow.Author.Needs.{needs}
 use Rattle.patterns.proofs.filled.Statement.{statement}
 use Rattle.patterns.proofs.filled.Tie as tie
 
@@ -9,7 +9,7 @@ returns c =
     fill-all (c .before .args .c) (c .before .args .k) (c .before .args .spread) (c .before .args .n) (c .if1 .taken)
 
 sub-t7 : tie.Need-sub-t7
-sub-t7 c = search needs
+sub-t7 c = omega arith
 
 returns-2 : tie.Need-returns-2
 returns-2 c =

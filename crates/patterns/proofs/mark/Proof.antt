@@ -1,26 +1,26 @@
 -- `patterns::mark` meets its contract: both marks fit 16 bits.
+use native.Mathlib.Omega.{arith}
 use Rattle.patterns.proofs.Small.{mark-tail, mark-end}
-use borrow.Author.Needs.{needs}
 use Rattle.patterns.proofs.mark.Statement.{statement}
 use Rattle.patterns.proofs.mark.Tie as tie
 
 mul-low : tie.Need-mul-low
-mul-low c = search needs
+mul-low c = omega arith
 
 add-low : tie.Need-add-low
-add-low c = search needs
+add-low c = omega arith
 
 low-requires : tie.Need-low-requires
-low-requires c κs = search needs
+low-requires c κs = tt
 
 mul-low-2 : tie.Need-mul-low-2
-mul-low-2 c = search needs
+mul-low-2 c = omega arith
 
 add-low-2 : tie.Need-add-low-2
-add-low-2 c = search needs
+add-low-2 c = omega arith
 
 low-requires-2 : tie.Need-low-requires-2
-low-requires-2 c κs = search needs
+low-requires-2 c κs = tt
 
 returns : tie.Need-returns
 returns c =

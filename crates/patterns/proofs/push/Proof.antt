@@ -1,20 +1,21 @@
 -- `patterns::push` meets its contract: three stores.
+use native.Mathlib.Omega.{arith}
 use Rattle.patterns.proofs.Stack.{push-law}
 use borrow.Author.Needs.{needs}
 use Rattle.patterns.proofs.push.Statement.{statement}
 use Rattle.patterns.proofs.push.Tie as tie
 
 mul-put16 : tie.Need-mul-put16
-mul-put16 c = search needs
+mul-put16 c = omega arith
 
 put16-requires : tie.Need-put16-requires
-put16-requires c κs = search needs
+put16-requires c κs = omega arith
 
 put16-requires-2 : tie.Need-put16-requires-2
-put16-requires-2 c κs = search needs
+put16-requires-2 c κs = omega arith
 
 put16-requires-3 : tie.Need-put16-requires-3
-put16-requires-3 c κs = search needs
+put16-requires-3 c κs = omega arith
 
 same-length : tie.Need-same-length
 same-length c = search needs

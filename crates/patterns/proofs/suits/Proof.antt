@@ -1,72 +1,72 @@
 -- `patterns::suits` meets its contract: each kind of pattern.
+use native.Mathlib.Omega.{arith}
 use Rattle.patterns.proofs.Small.{past-seven, is-discard, is-variable, is-assign, is-number, is-string, is-list, is-ctor, is-pair, is-tuple}
 use mathlib.Core.Path.{_∙_}
-use borrow.Author.Needs.{needs}
 use Rattle.patterns.proofs.suits.Statement.{statement}
 use Rattle.patterns.proofs.suits.Tie as tie
 
 at8-requires : tie.Need-at8-requires
-at8-requires c κs = search needs
+at8-requires c κs = tt
 
 at8-requires-2 : tie.Need-at8-requires-2
-at8-requires-2 c κs = search needs
+at8-requires-2 c κs = tt
 
 add-at8 : tie.Need-add-at8
-add-at8 c = search needs
+add-at8 c = omega arith
 
 at8-requires-3 : tie.Need-at8-requires-3
-at8-requires-3 c κs = search needs
+at8-requires-3 c κs = tt
 
 wide8-requires : tie.Need-wide8-requires
-wide8-requires c κs = search needs
+wide8-requires c κs = tt
 
 add-at8-2 : tie.Need-add-at8-2
-add-at8-2 c = search needs
+add-at8-2 c = omega arith
 
 at8-requires-4 : tie.Need-at8-requires-4
-at8-requires-4 c κs = search needs
+at8-requires-4 c κs = tt
 
 wide8-requires-2 : tie.Need-wide8-requires-2
-wide8-requires-2 c κs = search needs
+wide8-requires-2 c κs = tt
 
 add-at8-3 : tie.Need-add-at8-3
-add-at8-3 c = search needs
+add-at8-3 c = omega arith
 
 at8-requires-5 : tie.Need-at8-requires-5
-at8-requires-5 c κs = search needs
+at8-requires-5 c κs = tt
 
 add-low : tie.Need-add-low
-add-low c = search needs
+add-low c = omega arith
 
 low-requires : tie.Need-low-requires
-low-requires c κs = search needs
+low-requires c κs = tt
 
 on-kind-requires : tie.Need-on-kind-requires
-on-kind-requires c κs = search needs
+on-kind-requires c κs = tt
 
 on-kind-requires-2 : tie.Need-on-kind-requires-2
-on-kind-requires-2 c κs = search needs
+on-kind-requires-2 c κs = tt
 
 on-kind-requires-3 : tie.Need-on-kind-requires-3
-on-kind-requires-3 c κs = search needs
+on-kind-requires-3 c κs = tt
 
 args-requires : tie.Need-args-requires
-args-requires c κs = search needs
+args-requires c κs = omega arith
 
 on-kind-requires-4 : tie.Need-on-kind-requires-4
-on-kind-requires-4 c κs = search needs
+on-kind-requires-4 c κs = tt
 
 args-requires-2 : tie.Need-args-requires-2
-args-requires-2 c κs = search needs
+args-requires-2 c κs = omega arith
 
 on-kind-requires-5 : tie.Need-on-kind-requires-5
-on-kind-requires-5 c κs = search needs
+on-kind-requires-5 c κs = tt
 
 args-requires-3 : tie.Need-args-requires-3
-args-requires-3 c κs = search needs
+args-requires-3 c κs = omega arith
 
 on-kind-requires-6 : tie.Need-on-kind-requires-6
-on-kind-requires-6 c κs = search needs
+on-kind-requires-6 c κs = tt
 
 returns : tie.Need-returns
 returns c =

@@ -11,7 +11,7 @@ use Rattle.patterns.proofs.turn.Statement.{statement}
 use Rattle.patterns.proofs.turn.Tie as tie
 
 suits-requires : tie.Need-suits-requires
-suits-requires c κs = search needs
+suits-requires c κs = omega arith
 
 enum-told : tie.Need-enum-told
 enum-told c = search needs
@@ -23,34 +23,34 @@ enum-known-s : tie.Need-enum-known-s
 enum-known-s c = search needs
 
 put16-requires : tie.Need-put16-requires
-put16-requires c κs = search needs
+put16-requires c κs = omega arith
 
 settle-requires : tie.Need-settle-requires
-settle-requires c κs = search needs
+settle-requires c κs = omega arith
 
 enum-known-s-2 : tie.Need-enum-known-s-2
 enum-known-s-2 c = search needs
 
 mark-requires : tie.Need-mark-requires
-mark-requires c κs = search needs
+mark-requires c κs = omega arith
 
 low-requires : tie.Need-low-requires
-low-requires c κs = search needs
+low-requires c κs = tt
 
 mul-at16 : tie.Need-mul-at16
-mul-at16 c = search needs
+mul-at16 c = omega arith
 
 at16-requires : tie.Need-at16-requires
-at16-requires c κs = search needs
+at16-requires c κs = tt
 
 push-requires : tie.Need-push-requires
-push-requires c κs = search needs
+push-requires c κs = omega arith
 
 add-settle : tie.Need-add-settle
-add-settle c = search needs
+add-settle c = omega arith
 
 settle-requires-2 : tie.Need-settle-requires-2
-settle-requires-2 c κs = search needs
+settle-requires-2 c κs = omega arith
 
 enum-known-s-3 : tie.Need-enum-known-s-3
 enum-known-s-3 c = search needs
@@ -61,16 +61,16 @@ key-requires c κs =
     (c .before .before .before .before .before .before .before .before .before .before .before .before .before .pre .0 .1, omega (arith, k .2))
 
 put16-requires-2 : tie.Need-put16-requires-2
-put16-requires-2 c κs = search needs
+put16-requires-2 c κs = omega arith
 
 low-requires-2 : tie.Need-low-requires-2
-low-requires-2 c κs = search needs
+low-requires-2 c κs = tt
 
 low-requires-3 : tie.Need-low-requires-3
-low-requires-3 c κs = search needs
+low-requires-3 c κs = tt
 
 mul-at16-2 : tie.Need-mul-at16-2
-mul-at16-2 c = search needs
+mul-at16-2 c = omega arith
 
 add-at16 : tie.Need-add-at16
 add-at16 c =
@@ -78,10 +78,10 @@ add-at16 c =
     omega (arith, k .2, c .before .before .before .before .before .before .before .before .before .before .before .before .before .before .before .before .before .before .before .before .pre .0 .1)
 
 at16-requires-2 : tie.Need-at16-requires-2
-at16-requires-2 c κs = search needs
+at16-requires-2 c κs = tt
 
 push-requires-2 : tie.Need-push-requires-2
-push-requires-2 c κs = search needs
+push-requires-2 c κs = omega arith
 
 add-settle-2 : tie.Need-add-settle-2
 add-settle-2 c =
