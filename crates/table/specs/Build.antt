@@ -57,7 +57,7 @@ fieldPlaces bytes flag n = cond (isBare bytes flag) (places (flag + 2) n) (label
 unfoldable pub labelsWith : List ℕ → ℕ → ℕ → ℕ → List ℕ → List ℕ
 labelsWith bytes flag n used labels = cond (isBare bytes flag) labels (sets labels used (map (λ p. low (p + 1)) (labelled bytes (flag + 2) n)))
 
--- one more constructor, number i, of type t, from the frame whose name stands at a place
+-- one more constructor of type t, after those that it has, from the frame whose name stands at a place
 pub record WithCtor (bytes : List ℕ) (at t used : ℕ) (counts arities starts names fields labels counts′ arities′ starts′ names′ fields′ labels′ : List ℕ) : Type 0 where
   pub countsAre : counts′ ≡ set counts t (getD counts t 0 + 1)
   pub aritiesAre : arities′ ≡ set arities (32 * t + getD counts t 0) (arityIn bytes at)

@@ -8,7 +8,7 @@ use Rattle.layout.specs.Types.{textAt}
 use Rattle.table.specs.Places.{places, labelled, reads}
 use Rattle.table.specs.Build.{flagAt, arityIn, isBare}
 
--- does the name at a place stand already in type t
+-- is the name at a place one of n names
 unfoldable pub nameThere : List ℕ → ℕ → List ℕ → ℕ → ℕ → Bool
 nameThere bytes at names from n = any (λ p. same (textAt bytes at) (textAt bytes p)) (reads names (places from n))
 

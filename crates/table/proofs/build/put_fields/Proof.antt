@@ -44,14 +44,11 @@ loop-again c =
     let a = c .before .before .before .before .before .before .before .before .before .args in
     let l = c .before .before .before .before .before .before .loop in
     let at8 = c .before .before .before .at8 in
-    let at8 = at8 in
     let put8 = c .before .before .put8 in
     (omega arith, put8 .kept .0 ∙ l .inv .1, run-step (λ p. getD (a .bytes .now) p 0) (l .fields) (put8 .last .0) ((a .from) + (l .i)) ((a .from) + ((l .i) + 1)) _ _ _ _ (omega arith) (places-step (a .at) (l .i) (a .n) (omega arith)) (at8 .ensures) (put8 .ensures .1) ∙ l .inv .2)
 
 same-length : tie.Need-same-length Inv-loop μ-loop
-same-length c =
-    let l = c .before .loop in
-    l .inv .1
+same-length c = c .before .loop .inv .1
 
 returns : tie.Need-returns Inv-loop μ-loop
 returns c =

@@ -71,21 +71,14 @@ loop-again c =
     let at8 = c .before .before .before .before .before .before .before .before .before .at8 in
     let put8 = c .before .before .before .before .before .before .before .before .put8 in
     let put16 = c .before .before .before .before .put16 in
-    let at8 = at8 in
-    let put8 = put8 in
-    let put16 = put16 in
     let step = labelled-step (a .bytes .now) (l .p) (a .n - l .i) (a .n - (l .i + 1)) (c .wide8 .result) (omega arith) (c .wide8 .ensures ∙ c .before .at82 .ensures) in
     (omega arith, omega arith, put8 .kept .0 ∙ l .inv .2, put16 .kept .0 ∙ l .inv .3, run-step (λ p. getD (a .bytes .now) p 0) (l .fields) (put8 .last .0) ((a .from) + (l .i)) ((a .from) + ((l .i) + 1)) _ _ _ _ (omega arith) step (at8 .ensures) (put8 .ensures .1) ∙ l .inv .4, run-step (λ p. low (p + 1)) (l .labels) (put16 .last .0) ((a .from) + (l .i)) ((a .from) + ((l .i) + 1)) _ _ _ _ (omega arith) step refl (put16 .ensures .1) ∙ l .inv .5)
 
 same-length : tie.Need-same-length Inv-loop μ-loop
-same-length c =
-    let l = c .before .loop in
-    l .inv .2
+same-length c = c .before .loop .inv .2
 
 same-length-2 : tie.Need-same-length-2 Inv-loop μ-loop
-same-length-2 c =
-    let l = c .before .loop in
-    l .inv .3
+same-length-2 c = c .before .loop .inv .3
 
 returns : tie.Need-returns Inv-loop μ-loop
 returns c =

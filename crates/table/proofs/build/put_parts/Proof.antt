@@ -1,44 +1,42 @@
 -- `table::build::put_parts` meets its contract: the flag decides.
 use mathlib.Core.Path.{ap, _∙_}
 use lib.Seq.{sets}
+use native.Mathlib.Omega.{arith}
 use Rattle.table.specs.Places.{reads}
 use Rattle.table.proofs.Stores.{bare-places, bare-labels, labelled-places, labels-stored}
-use borrow.Author.Needs.{needs}
 use Rattle.table.proofs.build.put_parts.Statement.{statement}
 use Rattle.table.proofs.build.put_parts.Tie as tie
 
 at8-requires : tie.Need-at8-requires
-at8-requires c κs = search needs
+at8-requires c κs = tt
 
 add-put-fields : tie.Need-add-put-fields
-add-put-fields c = search needs
+add-put-fields c = omega (arith, c .before .before .before .before .before .pre)
 
 put-fields-requires : tie.Need-put-fields-requires
-put-fields-requires c κs = search needs
+put-fields-requires c κs = omega (arith, c .before .before .before .before .before .before .pre)
 
 same-length : tie.Need-same-length
-same-length c = search needs
+same-length c = c .before .before .put-fields .kept .1 .1 .1 .0
 
 returns : tie.Need-returns
 returns c =
     let a = c .before .before .before .before .before .before .before .before .before .args in
     let at8 = c .before .before .before .before .before .at8 in
     let if1 = c .before .before .before .before .if1 in
-    let at8 = at8 in
-    let if1 = if1 in
     (c .before .before .put-fields .ensures ∙ ap (λ ps. sets (a .fields .now) (a .from) (reads (a .bytes .now) ps)) (bare-places (a .bytes .now) (a .flag) (a .n) (at8 .result) (at8 .ensures) (if1 .taken)), bare-labels (a .bytes .now) (a .flag) (a .n) (at8 .result) (at8 .ensures) (a .from) (a .labels .now) (if1 .taken))
 
 add-put-labelled : tie.Need-add-put-labelled
-add-put-labelled c = search needs
+add-put-labelled c = omega (arith, c .before .before .before .before .before .pre)
 
 put-labelled-requires : tie.Need-put-labelled-requires
-put-labelled-requires c κs = search needs
+put-labelled-requires c κs = omega (arith, c .before .before .before .before .before .before .before .pre)
 
 same-length-2 : tie.Need-same-length-2
-same-length-2 c = search needs
+same-length-2 c = c .before .before .before .before .put-labelled .kept .1 .1 .1 .0
 
 same-length-3 : tie.Need-same-length-3
-same-length-3 c = search needs
+same-length-3 c = c .before .before .before .before .put-labelled .kept .1 .1 .1 .1 .0
 
 returns-2 : tie.Need-returns-2
 returns-2 c =
@@ -46,9 +44,6 @@ returns-2 c =
     let at8 = c .before .before .before .before .before .before .before .before .at8 in
     let if1 = c .before .before .before .before .before .before .before .if1 in
     let put-labelled = c .before .before .before .before .put-labelled in
-    let at8 = at8 in
-    let if1 = if1 in
-    let put-labelled = put-labelled in
     (put-labelled .ensures .0 ∙ ap (λ ps. sets (a .fields .now) (a .from) (reads (a .bytes .now) ps)) (labelled-places (a .bytes .now) (a .flag) (a .n) (at8 .result) (at8 .ensures) (if1 .left)), put-labelled .ensures .1 ∙ labels-stored (a .bytes .now) (a .flag) (a .n) (at8 .result) (at8 .ensures) (a .from) (a .labels .now) (if1 .left))
 
 pub put-parts-spec : {M : Type 1} → statement M

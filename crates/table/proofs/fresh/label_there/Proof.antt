@@ -18,8 +18,7 @@ abbrev μ-loop : tie.MeasureT-loop
 μ-loop bytes at p n q₀ left₀ q left = left
 
 loop-holds : tie.Need-loop-holds Inv-loop μ-loop
-loop-holds c =
-    (omega arith, omega arith, refl)
+loop-holds c = (omega arith, omega arith, refl)
 
 name-at-requires : tie.Need-name-at-requires Inv-loop μ-loop
 name-at-requires c κs = omega arith
@@ -38,7 +37,6 @@ returns c =
     let a = c .before .before .before .before .before .before .before .args in
     let l = c .before .before .before .before .before .loop in
     let name-at = c .before .before .before .name-at in
-    let name-at = name-at in
     let there = sym (c .before .same .ensures ∙ ap₂ sameText (name-at .ensures) (c .before .before .name-at2 .ensures)) ∙ c .if1 .taken in
     sym (l .inv .2 ∙ any-off (sameText (textAt (a .bytes .now) (a .at))) _ _ _ (labels-step (a .bytes .now) (l .q) (l .left) (l .left - 1) (getD (a .bytes .now) (l .q + 1) 0) (omega arith) refl) there)
 
@@ -70,9 +68,6 @@ loop-again c =
     let name-at = c .before .before .before .before .before .name-at in
     let name-at2 = c .before .before .before .before .name-at2 in
     let same = c .before .before .before .same in
-    let name-at = name-at in
-    let name-at2 = name-at2 in
-    let same = same in
     let other = sym (same .ensures ∙ ap₂ sameText (name-at .ensures) (name-at2 .ensures)) ∙ c .before .before .if1 .left in
     (omega arith, omega arith, l .inv .2 ∙ any-on (sameText (textAt (a .bytes .now) (a .at))) _ _ _ (labels-step (a .bytes .now) (l .q) (l .left) (l .left - 1) (c .wide8 .result) (omega arith) (c .wide8 .ensures ∙ c .before .at8 .ensures)) other)
 

@@ -15,8 +15,7 @@ abbrev μ-loop : tie.MeasureT-loop
 μ-loop bytes p n q₀ more₀ q more = more
 
 loop-holds : tie.Need-loop-holds Inv-loop μ-loop
-loop-holds c =
-    (omega arith, omega arith, refl)
+loop-holds c = (omega arith, omega arith, refl)
 
 add-next : tie.Need-add-next Inv-loop μ-loop
 add-next c = omega arith
@@ -40,17 +39,13 @@ sub-label-there : tie.Need-sub-label-there Inv-loop μ-loop
 sub-label-there c = omega arith
 
 label-there-requires : tie.Need-label-there-requires Inv-loop μ-loop
-label-there-requires c κs =
-    let pre = c .before .before .before .before .before .pre in
-    let pre = pre in
-    omega (arith, pre, c .before .at8 .ok, c .wide8 .ensures)
+label-there-requires c κs = omega (arith, c .before .before .before .before .before .pre, c .before .at8 .ok, c .wide8 .ensures)
 
 returns : tie.Need-returns Inv-loop μ-loop
 returns c =
     let a = c .before .before .before .before .before .before .before .args in
     let l = c .before .before .before .before .before .loop in
     let at8 = c .before .before .before .at8 in
-    let at8 = at8 in
     let wide8 = c .before .before .wide8 in
     let step = labels-step (a .bytes .now) (l .q) (l .more) (l .more - 1) (wide8 .result) (omega arith) (wide8 .ensures ∙ at8 .ensures) in
     sym (l .inv .2 ∙ twice-off _ _ _ step (sym (c .before .label-there .ensures) ∙ c .if1 .taken))
@@ -66,7 +61,6 @@ loop-again c =
     let a = c .before .before .before .before .before .before .before .args in
     let l = c .before .before .before .before .before .loop in
     let at8 = c .before .before .before .at8 in
-    let at8 = at8 in
     let wide8 = c .before .before .wide8 in
     let step = labels-step (a .bytes .now) (l .q) (l .more) (l .more - 1) (wide8 .result) (omega arith) (wide8 .ensures ∙ at8 .ensures) in
     (omega arith, omega arith, l .inv .2 ∙ twice-on _ _ _ step (sym (c .before .label-there .ensures) ∙ c .if1 .left))

@@ -38,7 +38,6 @@ returns-2 : tie.Need-returns-2
 returns-2 c =
     let a = c .before .before .before .before .before .before .args in
     let at8 = c .before .before .before .at8 in
-    let at8 = at8 in
     let wide8 = c .before .before .wide8 in
     text-cut (a .bytes .now) (a .at) (wide8 .result) (wide8 .ensures ∙ at8 .ensures) (c .before .if2 .taken)
 
@@ -55,7 +54,6 @@ returns-3 : tie.Need-returns-3
 returns-3 c =
     let a = c .before .before .before .before .before .before .args in
     let at8 = c .before .before .before .at8 in
-    let at8 = at8 in
     let wide8 = c .before .before .wide8 in
     text-whole (a .bytes .now) (a .at) (wide8 .result) (wide8 .ensures ∙ at8 .ensures)
 

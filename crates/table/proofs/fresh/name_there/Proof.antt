@@ -35,8 +35,7 @@ name-at-requires : tie.Need-name-at-requires Inv-loop μ-loop
 name-at-requires c κs = omega arith
 
 name-at-requires-2 : tie.Need-name-at-requires-2 Inv-loop μ-loop
-name-at-requires-2 c κs =
-    omega (arith, c .before .before .at16 .ok)
+name-at-requires-2 c κs = omega (arith, c .before .before .at16 .ok)
 
 same-requires : tie.Need-same-requires Inv-loop μ-loop
 same-requires c κs = tt
@@ -48,9 +47,6 @@ returns c =
     let at16 = c .before .before .before .before .before .at16 in
     let wide16 = c .before .before .before .before .wide16 in
     let name-at = c .before .before .before .name-at in
-    let at16 = at16 in
-    let wide16 = wide16 in
-    let name-at = name-at in
     let place = wide16 .ensures ∙ at16 .ensures in
     let found = sym (c .before .same .ensures ∙ ap₂ sameText (name-at .ensures) (c .before .before .name-at2 .ensures ∙ ap (textAt (a .bytes .now)) place)) ∙ c .if1 .taken in
     sym (l .inv .1 ∙ any-off (λ p. sameText (textAt (a .bytes .now) (a .at)) (textAt (a .bytes .now) p)) _ _ _ (reads-step (a .names .now) (a .from) (l .i) (a .n) (omega arith)) found)
@@ -68,9 +64,6 @@ loop-again c =
     let at16 = c .before .before .before .before .before .at16 in
     let wide16 = c .before .before .before .before .wide16 in
     let name-at = c .before .before .before .name-at in
-    let at16 = at16 in
-    let wide16 = wide16 in
-    let name-at = name-at in
     let place = wide16 .ensures ∙ at16 .ensures in
     let other = sym (c .before .same .ensures ∙ ap₂ sameText (name-at .ensures) (c .before .before .name-at2 .ensures ∙ ap (textAt (a .bytes .now)) place)) ∙ c .if1 .left in
     (omega arith, l .inv .1 ∙ any-on (λ p. sameText (textAt (a .bytes .now) (a .at)) (textAt (a .bytes .now) p)) _ _ _ (reads-step (a .names .now) (a .from) (l .i) (a .n) (omega arith)) other)

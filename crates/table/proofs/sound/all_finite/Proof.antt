@@ -19,16 +19,10 @@ loop-holds c =
     (omega arith, known-start (a .kinds .now) (a .counts .now) (a .arities .now) (a .starts .now) (a .fields .now) (a .types))
 
 round-requires : tie.Need-round-requires Inv-loop μ-loop
-round-requires c κs =
-    let pre = c .before .before .before .before .before .before .before .pre in
-    let pre = pre in
-    pre
+round-requires c κs = c .before .before .before .before .before .before .before .pre
 
 add-n : tie.Need-add-n Inv-loop μ-loop
-add-n c =
-    let pre = c .before .before .before .before .before .before .before .before .pre in
-    let pre = pre in
-    omega (arith, pre)
+add-n c = omega (arith, c .before .before .before .before .before .before .before .before .pre)
 
 loop-less : tie.Need-loop-less Inv-loop μ-loop
 loop-less c = omega arith
@@ -38,21 +32,16 @@ loop-again c =
     let a = c .before .before .before .before .before .before .before .before .args in
     let pre = c .before .before .before .before .before .before .before .before .pre in
     let l = c .before .before .loop in
-    let pre = pre in
     (omega arith, known-next (a .kinds .now) (a .counts .now) (a .arities .now) (a .starts .now) (a .fields .now) (a .types) (l .n) (l .known) (c .round .result) (pre) (l .inv .1) (c .round .ensures))
 
 all-have-requires : tie.Need-all-have-requires Inv-loop μ-loop
-all-have-requires c κs =
-    let pre = c .before .before .before .before .before .before .before .pre in
-    let pre = pre in
-    pre
+all-have-requires c κs = c .before .before .before .before .before .before .before .pre
 
 returns : tie.Need-returns Inv-loop μ-loop
 returns c =
     let a = c .before .before .before .before .before .before .before .before .args in
     let pre = c .before .before .before .before .before .before .before .before .pre in
     let l = c .before .before .loop in
-    let pre = pre in
     c .all-have .ensures ∙ known-last (a .kinds .now) (a .counts .now) (a .arities .now) (a .starts .now) (a .fields .now) (a .types) (l .n) (l .known) (pre) (omega arith) (l .inv .1)
 
 pub all-finite-spec : {M : Type 1} → statement M

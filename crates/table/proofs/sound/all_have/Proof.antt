@@ -23,10 +23,7 @@ loop-holds c =
     (omega arith, ap (λ k. all (valueIn (a .kinds .now) (a .counts .now) (a .arities .now) (a .starts .now) (a .fields .now) (a .known)) (places 0 k)) (sym (sub-zero (a .types))))
 
 has-value-requires : tie.Need-has-value-requires Inv-loop μ-loop
-has-value-requires c κs =
-    let pre = c .before .before .before .before .before .before .before .pre in
-    let pre = pre in
-    omega (arith, pre)
+has-value-requires c κs = omega (arith, c .before .before .before .before .before .before .before .pre)
 
 returns : tie.Need-returns Inv-loop μ-loop
 returns c =
@@ -35,10 +32,7 @@ returns c =
     sym (l .inv .1 ∙ all-off (valueIn (a .kinds .now) (a .counts .now) (a .arities .now) (a .starts .now) (a .fields .now) (a .known)) _ _ _ (places-next (l .t) (a .types) (omega arith)) (sym (c .before .has-value .ensures) ∙ not-true _ (c .if1 .taken)))
 
 add-t : tie.Need-add-t Inv-loop μ-loop
-add-t c =
-    let pre = c .before .before .before .before .before .before .before .before .before .pre in
-    let pre = pre in
-    omega (arith, pre)
+add-t c = omega (arith, c .before .before .before .before .before .before .before .before .before .pre)
 
 loop-less : tie.Need-loop-less Inv-loop μ-loop
 loop-less c = omega arith

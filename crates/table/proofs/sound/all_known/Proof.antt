@@ -38,7 +38,6 @@ returns c =
     let a = c .before .before .before .before .before .before .args in
     let good = c .before .before .before .before .before .before .good in
     let l = c .before .before .before .before .loop in
-    let good = good in
     let far : length (a .t4) ≤ getD (a .fields .now) (a .from + l .k) 0 = omega (arith, good) in
     sym (l .inv .1 ∙ all-off (isKnown (a .t4)) _ _ _ (reads-step (a .fields .now) (a .from) (l .k) (a .n) (omega arith)) (List·getD-eq-default (a .t4) false far))
 
@@ -50,7 +49,6 @@ returns-2 c =
     let a = c .before .before .before .before .before .before .before .args in
     let l = c .before .before .before .before .before .loop in
     let at8 = c .before .before .before .at8 in
-    let at8 = at8 in
     sym (l .inv .1 ∙ all-off (isKnown (a .t4)) _ _ _ (reads-step (a .fields .now) (a .from) (l .k) (a .n) (omega arith)) (ap (λ j. getD (a .t4) j false) (sym (c .before .before .wide8 .ensures ∙ at8 .ensures)) ∙ not-true _ (c .if2 .taken)))
 
 add-k : tie.Need-add-k Inv-loop μ-loop
@@ -64,7 +62,6 @@ loop-again c =
     let a = c .before .before .before .before .before .before .before .args in
     let l = c .before .before .before .before .before .loop in
     let at8 = c .before .before .before .at8 in
-    let at8 = at8 in
     (omega arith, l .inv .1 ∙ all-on (isKnown (a .t4)) _ _ _ (reads-step (a .fields .now) (a .from) (l .k) (a .n) (omega arith)) (ap (λ j. getD (a .t4) j false) (sym (c .before .before .wide8 .ensures ∙ at8 .ensures)) ∙ not-false _ (c .if2 .left)))
 
 returns-3 : tie.Need-returns-3 Inv-loop μ-loop

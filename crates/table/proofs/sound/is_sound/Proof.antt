@@ -26,7 +26,6 @@ returns-3 : tie.Need-returns-3
 returns-3 c =
     let a = c .before .before .before .before .before .before .before .before .before .args in
     let if1 = c .before .before .before .if1 in
-    let if1 = if1 in
     c .all-finite .ensures ∙ all-refs (a .kinds .now) (a .counts .now) (a .arities .now) (a .starts .now) (a .fields .now) (a .used) (a .types) (a .subject) (if1 .left) (sym (not-false _ (c .before .if2 .left)) ∙ c .before .before .refs-good .ensures)
 
 pub is-sound-spec : {M : Type 1} → statement M

@@ -24,22 +24,13 @@ loop-holds c =
     (omega arith, refl, ap (λ k. flags (map (valueIn (a .kinds .now) (a .counts .now) (a .arities .now) (a .starts .now) (a .fields .now) (a .known)) (places 0 k))) (sub-zero (a .types)))
 
 has-value-requires : tie.Need-has-value-requires Inv-loop μ-loop
-has-value-requires c κs =
-    let pre = c .before .before .before .before .before .before .before .pre in
-    let pre = pre in
-    omega (arith, pre)
+has-value-requires c κs = omega (arith, c .before .before .before .before .before .before .before .pre)
 
 array-write-next : tie.Need-array-write-next Inv-loop μ-loop
-array-write-next c =
-    let pre = c .before .before .before .before .before .before .before .before .pre in
-    let pre = pre in
-    omega (arith, pre)
+array-write-next c = omega (arith, c .before .before .before .before .before .before .before .before .pre)
 
 add-t : tie.Need-add-t Inv-loop μ-loop
-add-t c =
-    let pre = c .before .before .before .before .before .before .before .before .pre in
-    let pre = pre in
-    omega (arith, pre)
+add-t c = omega (arith, c .before .before .before .before .before .before .before .before .pre)
 
 loop-less : tie.Need-loop-less Inv-loop μ-loop
 loop-less c = omega arith

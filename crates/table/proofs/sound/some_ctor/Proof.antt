@@ -50,10 +50,7 @@ wide8-requires-2 : tie.Need-wide8-requires-2 Inv-loop μ-loop
 wide8-requires-2 c κs = tt
 
 all-known-requires : tie.Need-all-known-requires Inv-loop μ-loop
-all-known-requires c κs =
-    let at16 = c .before .before .before .at16 in
-    let at16 = at16 in
-    omega (arith, at16 .ok, c .before .at82 .ok)
+all-known-requires c κs = omega (arith, c .before .before .before .at16 .ok, c .before .at82 .ok)
 
 returns : tie.Need-returns Inv-loop μ-loop
 returns c =
@@ -63,10 +60,6 @@ returns c =
     let at16 = c .before .before .before .before .before .at16 in
     let wide16 = c .before .before .before .before .wide16 in
     let at82 = c .before .before .before .at82 in
-    let wide8 = wide8 in
-    let at16 = at16 in
-    let wide16 = wide16 in
-    let at82 = at82 in
     let k = ctor-known (a .arities .now) (a .arities .now) (a .arities .now) (a .starts .now) (a .fields .now) (a .known) (32 * a .t + l .c) _ _ (wide16 .ensures ∙ at16 .ensures) (c .before .before .wide82 .ensures ∙ at82 .ensures) in
     sym (l .inv .3 ∙ any-off (fieldsKnown (a .arities .now) (a .starts .now) (a .fields .now) (a .known)) _ _ _ (places-step (32 * a .t) (l .c) (wide8 .result) (omega arith)) (sym k ∙ sym (c .before .all-known .ensures) ∙ c .if1 .taken))
 
@@ -84,10 +77,6 @@ loop-again c =
     let at16 = c .before .before .before .before .before .at16 in
     let wide16 = c .before .before .before .before .wide16 in
     let at82 = c .before .before .before .at82 in
-    let wide8 = wide8 in
-    let at16 = at16 in
-    let wide16 = wide16 in
-    let at82 = at82 in
     let k = ctor-known (a .arities .now) (a .arities .now) (a .arities .now) (a .starts .now) (a .fields .now) (a .known) (32 * a .t + l .c) _ _ (wide16 .ensures ∙ at16 .ensures) (c .before .before .wide82 .ensures ∙ at82 .ensures) in
     (omega arith, l .inv .1, l .inv .2, l .inv .3 ∙ any-on (fieldsKnown (a .arities .now) (a .starts .now) (a .fields .now) (a .known)) _ _ _ (places-step (32 * a .t) (l .c) (wide8 .result) (omega arith)) (sym k ∙ sym (c .before .all-known .ensures) ∙ c .if1 .left))
 
