@@ -1,0 +1,221 @@
+-- The lines of a file, one after another: what is said so far, and that what is left of the file decides as the definitions do.
+use mathlib.Core.Path.{_≡_, refl, sym, ap, subst, _∙_}
+use mathlib.Core.Bool.{true, false, _&&_}
+use mathlib.Core.List.{List, [], _∷_, _++_}
+use Prim.Native.Nat.{ℕ, zero, suc, _+_, _*_, _-_, _%_, _≤_, _<_}
+use native.Mathlib.Omega.{arith}
+use native.Mathlib.Numerals.{add-one}
+use lib.ListN.{length, take, drop, replicate, length-append, take-append-drop, drop-of-length-le}
+use lib.Seq.{sets, length-sets, length-take-le, getD-take, drop-at}
+use lib.Dec.{ltb, leb, eqb}
+use Rattle.scope.proofs.Tests.{clash, both}
+use Rattle.scope.proofs.Parsing.{block-good}
+use Rattle.scope.specs.Lists.{all}
+use Rattle.scope.specs.Lines.{Line, ended, lines, isHex, unhex, isLine}
+use Rattle.scope.specs.Types.{Table}
+use Rattle.scope.specs.Patterns.{Matrix}
+use Rattle.scope.specs.Blocks as scope
+use Rattle.scope.specs.Blocks.{Phase, types, clauses, start, ok, refuse, goOn, framed, line, parsed, faulty, finish, parse, blockOf}
+use Rattle.frames.specs.declared.hex.Line as hex
+use Rattle.frames.specs.Digits.{TakenLine, RefusedLine, Lined}
+use Rattle.table.proofs.Held.{take-through}
+use Rattle.table.proofs.Carried.{empty-holds, more-holds}
+use Rattle.patterns.proofs.Rows.{row-grown}
+use Rattle.reading.specs.declared.state.State.{State}
+use Rattle.reading.specs.declared.step.Step.{Step}
+use Rattle.reading.specs.declared.step.Step.the-variants.{On, Refused}
+use Rattle.reading.specs.declared.file.Parsed as answers
+use Rattle.reading.specs.Said.{Held, held, Sized, phaseOf, Rows, Says, Stepped, goes, stops}
+use Rattle.reading.specs.Enters.{Numbers}
+use Rattle.reading.specs.Files.{HoldsBlock, ReadAs, aBlock, aFault}
+use Rattle.reading.proofs.Entering.{no-rows}
+
+-- the slices, with more bytes
+abbrev pub grown : Held → List ℕ → Held
+grown h bytes = held bytes (h .kinds) (h .counts) (h .arities) (h .starts) (h .names) (h .fields) (h .labels) (h .nodes) (h .left) (h .rows)
+
+-- lengths do not ask for the bytes
+pub resized : {h : Held} → Sized h → (bytes : List ℕ) → Sized (grown h bytes)
+resized z bytes = record { kindsLong = z .kindsLong; countsLong = z .countsLong; aritiesLong = z .aritiesLong; startsLong = z .startsLong; namesLong = z .namesLong; fieldsLong = z .fieldsLong; labelsLong = z .labelsLong; nodesLong = z .nodesLong; leftLong = z .leftLong; rowsLong = z .rowsLong }
+
+-- a line that was read, by its answer
+module _ (file : List ℕ) (from : ℕ) (before : List ℕ) (at : ℕ) (l : hex.Line) (after : List ℕ) (x : Lined file from before at l after) where
+  pub taken : (next to : ℕ) → l ≡ hex.the-variants.Good next to → TakenLine file from before at next to after
+  taken next to e = subst (λ (m : hex.Line). Lined file from before at m after) e x
+
+  pub not-taken : l ≡ hex.the-variants.Bad → RefusedLine file from before after
+  not-taken e = subst (λ (m : hex.Line). Lined file from before at m after) e x
+
+rows-grown : {bytes nodes left rows : List ℕ} {count used : ℕ} {table : Table} {m : Matrix} (more : List ℕ) → Rows bytes nodes left rows count used table m → Rows (bytes ++ more) nodes left rows count used table m
+rows-grown {bytes} more o = record { counted = o .counted; packed = o .packed; few = o .few; short = o .short; each = λ i l. row-grown bytes more (o .each i l); before = o .before }
+
+-- what is said stays so with more bytes
+pub says-grown : {h : Held} {s : State} {σ : scope.State} (more : List ℕ) → Says h s σ → Says (grown h (h .bytes ++ more)) s σ
+says-grown {h} more w =
+    record {
+      phaseIs = w .phaseIs;
+      low = w .low;
+      holds = more-holds (h .bytes) more (w .holds);
+      few = w .few;
+      subjectIs = w .subjectIs;
+      clausesAre = w .clausesAre;
+      rowsAre = rows-grown more (w .rowsAre);
+      inPhase = w .inPhase;
+    }
+
+-- a line that is not 3 has a byte
+some-byte : (ds : List ℕ) → isLine (ended ds) ≡ true → 0 < length (unhex ds)
+unfolding isLine unhex
+some-byte [] e = let p = both (ltb 0 0 && eqb (0 % 2) 0 && leb 0 1280) (all isHex []) e in let q = both (ltb 0 0 && eqb (0 % 2) 0) (leb 0 1280) (p .0) in let r : ltb 0 0 ≡ true = both (ltb 0 0) (eqb (0 % 2) 0) (q .0) .0 in clash (cc)
+some-byte (d ∷ []) e = let p = both (ltb 0 1 && eqb (1 % 2) 0 && leb 1 1280) (all isHex (d ∷ [])) e in let q = both (ltb 0 1 && eqb (1 % 2) 0) (leb 1 1280) (p .0) in let r : eqb (1 % 2) 0 ≡ true = both (ltb 0 1) (eqb (1 % 2) 0) (q .0) .1 in clash (cc)
+some-byte (d ∷ f ∷ ds) e = omega arith
+
+-- a line of hexadecimal is its bytes' step
+parse-next : (k : ℕ) (σ : scope.State) (ds : List ℕ) (rest : List Line) → isLine (ended ds) ≡ true → parse k σ (ended ds ∷ rest) ≡ goOn k (framed σ (unhex ds)) (λ σ′. parse (suc k) σ′ rest)
+unfolding parse line
+parse-next k σ ds rest e = rw e
+
+-- 3
+parse-bad : (k : ℕ) (σ : scope.State) (l : Line) (rest : List Line) → isLine l ≡ false → parse k σ (l ∷ rest) ≡ faulty 3 k
+unfolding parse line
+parse-bad k σ l rest e = rw e
+
+-- up to the place i of the file, before line k: what is said, and what is left decides
+pub record Within (file : List ℕ) (k i at : ℕ) (s : State) (h : Held) : Type 0 where
+  pub state : scope.State
+  pub says : Says h s state
+  pub onward : blockOf (lines file) ≡ parse k state (lines (drop i file))
+  pub packed : 2 * at ≤ i
+  pub inside : i ≤ length file
+  pub numbered : k ≤ i + 1
+  pub sized : Sized h
+
+-- nothing is read yet
+pub within-start : (file : List ℕ) (s : State) (bytes kinds counts arities starts names fields labels nodes left rows : List ℕ) → Numbers s 0 0 0 0 0 → labels ≡ replicate 5120 0 → Sized (held bytes kinds counts arities starts names fields labels nodes left rows)
+    → Within file 1 0 0 s (held (take 0 bytes) kinds counts arities starts names fields labels nodes left rows)
+unfolding blockOf
+within-start file s bytes kinds counts arities starts names fields labels nodes left rows n e z =
+    record {
+      state = start;
+      says = record {
+        phaseIs = ap phaseOf (n .phaseIs);
+        low = omega (arith, n .phaseIs);
+        holds = rw (n .typesAre, n .ctorsAre, n .fieldsAre, e) (empty-holds (take 0 bytes) kinds counts arities starts names fields 5120);
+        few = omega (arith, n .ctorsAre);
+        subjectIs = n .subjectIs;
+        clausesAre = n .clausesAre;
+        rowsAre = no-rows _ _ _ _ _ _ _ (n .countIs) (n .usedIs);
+        inPhase = tt;
+      };
+      onward = refl;
+      packed = omega arith;
+      inside = omega arith;
+      numbered = omega arith;
+      sized = resized z (take 0 bytes);
+    }
+
+-- the answer to a line, taken apart
+gone : {h : Held} {r : Step} {x : scope.Step scope.State} → Stepped h r x → (s : State) → r ≡ On s → (σ : scope.State) × ((x ≡ ok σ) × Says h s σ)
+gone {h} (goes {s = s′} {σ = σ} w) s e = let i : s′ ≡ s = cc in (σ, (refl, subst (λ (t : State). Says h t σ) i w))
+gone (stops n) s e = clash (cc)
+
+stopped : {h : Held} {r : Step} {x : scope.Step scope.State} → Stepped h r x → (n : ℕ) → r ≡ Refused n → x ≡ refuse n
+stopped (goes w) n e = clash (cc)
+stopped (stops m) n e = let i : m ≡ n = cc in ap refuse i
+
+module _ {file : List ℕ} {k i at : ℕ} {s : State} {h : Held} (v : Within file k i at s h) where
+  -- 3
+  pub line-bad : {before after : List ℕ} {h′ : Held} → RefusedLine file i before after → ReadAs file h′ (answers.the-variants.Faulty 3 k)
+  line-bad t = aFault (v .onward ∙ ap (parse k (v .state)) (t .begins) ∙ parse-bad k (v .state) (t .line) (t .others) (t .bad))
+
+  module _ (before after : List ℕ) (next to : ℕ) (t : TakenLine file i before at next to after) (so-far : h .bytes ≡ take at before) (fits : length file ≤ 2 * length before) where
+    abbrev line-bytes : List ℕ
+    line-bytes = unhex (t .digitsOf)
+
+    to-fits : to ≤ length before
+    to-fits = omega (arith, t .packed, t .inside)
+
+    pub to-after : to ≤ length after
+    to-after = omega (arith, to-fits, ap length (t .written), length-sets before at line-bytes)
+
+    -- the bytes so far, and the line's
+    bytes-are : take to after ≡ h .bytes ++ line-bytes
+    bytes-are = ap (λ (l : List ℕ). take to l) (t .written) ∙ ap (λ (n : ℕ). take n (sets before at line-bytes)) (t .reached) ∙ take-through line-bytes before at (omega (arith, to-fits, t .reached)) ∙ ap (λ (l : List ℕ). l ++ line-bytes) (sym so-far)
+
+    before-long : at ≡ length (h .bytes)
+    before-long = sym (ap length so-far ∙ length-take-le at before (omega (arith, to-fits, t .reached)))
+
+    pub line-is : drop at (take to after) ≡ line-bytes
+    line-is = ap (drop at) bytes-are ∙ drop-at (h .bytes) line-bytes at (sym before-long)
+
+    pub line-long : length (take to after) ≡ to
+    line-long = ap length bytes-are ∙ length-append (h .bytes) line-bytes ∙ omega (arith, before-long, t .reached)
+
+    pub line-some : at < to
+    line-some = omega (arith, t .reached, some-byte (t .digitsOf) (t .good))
+
+    pub line-says : Says (grown h (take to after)) s (v .state)
+    line-says = rw bytes-are (says-grown line-bytes (v .says))
+
+    module _ (r : Step) {h′ : Held} (x : Stepped h′ r (framed (v .state) (drop at (take to after)))) where
+      goes-on : blockOf (lines file) ≡ goOn k (framed (v .state) (drop at (take to after))) (λ σ′. parse (suc k) σ′ (lines (drop next file)))
+      goes-on = v .onward ∙ ap (parse k (v .state)) (t .begins) ∙ parse-next k (v .state) (t .digitsOf) (lines (drop next file)) (t .good) ∙ ap (λ (bs : List ℕ). goOn k (framed (v .state) bs) (λ σ′. parse (suc k) σ′ (lines (drop next file)))) (sym line-is)
+
+      pub line-stops : (n : ℕ) → r ≡ Refused n → {h″ : Held} → ReadAs file h″ (answers.the-variants.Faulty n k)
+      line-stops n e = aFault (goes-on ∙ ap (λ (y : scope.Step scope.State). goOn k y (λ σ′. parse (suc k) σ′ (lines (drop next file)))) (stopped x n e))
+
+      pub line-goes : (s′ : State) → r ≡ On s′ → Sized h′ → Within file (k + 1) next to s′ h′
+      line-goes s′ e z =
+          let g = gone x s′ e in
+          record {
+            state = g .0;
+            says = g .1 .1;
+            onward = goes-on ∙ ap (λ (y : scope.Step scope.State). goOn k y (λ σ′. parse (suc k) σ′ (lines (drop next file)))) (g .1 .0) ∙ ap (λ (j : ℕ). parse j (g .0) (lines (drop next file))) (sym (add-one k));
+            packed = t .packed;
+            inside = t .inside;
+            numbered = omega (arith, v .numbered, t .onward);
+            sized = z;
+          }
+
+  -- the end of the file
+  module _ (done : length file ≤ i) where
+    at-end : blockOf (lines file) ≡ finish k (v .state)
+    unfolding lines parse
+    at-end = v .onward ∙ ap (λ (l : List ℕ). parse k (v .state) (lines l)) (drop-of-length-le file done)
+
+    pub no-end : (s .phase ≡ 3 → ⊥) → {h′ : Held} → ReadAs file h′ (answers.the-variants.Faulty 5 k)
+    no-end e = aFault (at-end ∙ ap (λ (p : Phase). finish k (record { phase = p; block = v .state .block })) (sym (v .says .phaseIs)) ∙ open-phase (s .phase) (v .says .low) e)
+      where
+        open-phase : (p : ℕ) → p ≤ 3 → (p ≡ 3 → ⊥) → finish k (record { phase = phaseOf p; block = v .state .block }) ≡ faulty 5 k
+        open-phase zero l d = refl
+        open-phase (suc zero) l d = refl
+        open-phase (suc (suc zero)) l d = refl
+        open-phase (suc (suc (suc zero))) l d = absurd (d refl)
+        open-phase (suc (suc (suc (suc p)))) l d = absurd (omega arith)
+
+    pub the-block : s .phase ≡ 3 → (bytes : List ℕ) → h .bytes ≡ take at bytes → ReadAs file (grown h bytes) (answers.the-variants.Block (s .subject) (s .clauses) (s .types))
+    the-block e bytes so-far =
+        let b = v .state .block in
+        let is : blockOf (lines file) ≡ parsed b = at-end ∙ ap (λ (p : Phase). finish k (record { phase = p; block = b })) (sym (v .says .phaseIs) ∙ ap phaseOf e) in
+        let whole : h .bytes ++ drop at bytes ≡ bytes = ap (λ (l : List ℕ). l ++ drop at bytes) so-far ∙ take-append-drop at bytes in
+        let w : Says (grown h bytes) s (v .state) = subst (λ (l : List ℕ). Says (grown h l) s (v .state)) whole (says-grown (drop at bytes) (v .says)) in
+        let g = block-good (lines file) b is in
+        let few : s .clauses ≤ 64 = omega (arith, w .clausesAre, w .rowsAre .few) in
+        let long : length (take (s .clauses) (h .rows)) ≡ length (b .rows) = length-take-le (s .clauses) (h .rows) (omega (arith, v .sized .rowsLong)) ∙ w .clausesAre in
+        let there : HoldsBlock (grown h bytes) (s .subject) (s .clauses) (s .types) b =
+        record {
+          ctors = s .ctors;
+          fields = s .fields;
+          holds = w .holds;
+          rowsAre = record {
+            same = v .sized .leftLong ∙ sym (v .sized .nodesLong);
+            short = omega (arith, v .sized .nodesLong);
+            many = long;
+            each = λ j l. rw (getD-take (s .clauses) (h .rows) j 0 (omega (arith, w .clausesAre))) (w .rowsAre .each j l .stands);
+          };
+          subjectIs = w .subjectIs;
+          clausesAre = w .clausesAre;
+          sound = g .sound;
+          typed = g .typed;
+        } in
+        aBlock b is there
