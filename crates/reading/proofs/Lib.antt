@@ -4,3 +4,4 @@ pub mod Framing
 pub mod Entering
 pub mod Stepping
 pub mod Lines
+pub mod Once
