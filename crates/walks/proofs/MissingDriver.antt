@@ -1,19 +1,22 @@
 -- The driver's part: the clauses' rows at the front of the scratch, and what the answer says of every block that the slices hold.
 use mathlib.Core.Path.{_≡_, refl, sym, ap, ap₂, subst, _∙_}
-use mathlib.Core.Bool.{cond, _&&_}
+use mathlib.Core.Logic.{⊎-elim}
+use mathlib.Core.Bool.{Bool, true, false, not, cond, _&&_, _||_}
 use mathlib.Core.List.{List, [], _∷_, _++_, map, map-append}
 use Prim.Native.Nat.{ℕ, suc, _+_, _≤_, _<_}
 use native.Mathlib.Nat.{zero-add}
 use native.Mathlib.Omega.{arith}
 use lib.ListN.{length, getD, take, drop, length-map}
 use lib.Seq.{sets, sets-eq, take-at, take-length, length-take-le}
-use lib.Dec.{leb}
+use lib.Dec.{leb, ltb}
+use borrow.Author.Tests.{le-leb, lt-leb, lt-ltb, le-ltb}
+use Rattle.scope.specs.Limits.{maxCalls, maxCells, maxMissing}
 use Rattle.scope.specs.Lists.{flatten}
 use Rattle.scope.specs.Types.{Ref, Table}
 use Rattle.scope.specs.Patterns.{Row, Matrix}
 use Rattle.scope.specs.Walks.{Walk, turned, collectMissingPatterns}
 use Rattle.scope.specs.Blocks.{nodesIn}
-use Rattle.layout.specs.Nodes.{rowOf}
+use Rattle.layout.specs.Nodes.{nodeOf, rowOf}
 use Rattle.walks.specs.Numbers.{Rows, missingOf, matrix}
 use Rattle.walks.specs.Places.{Places, noPlaces, andPlace}
 use Rattle.walks.specs.Limits.{within}
@@ -21,12 +24,15 @@ use Rattle.walks.specs.Ready.{Sizes}
 use Rattle.walks.specs.Driver.{Start, Starts}
 use Rattle.walks.specs.Bridge.{Says, SayRows, noRows, also}
 use Rattle.walks.specs.Path.{under, pathOf}
-use Rattle.walks.specs.Missing.{nodesOf, Opened, Trail, Sought, sought, missingRows, outAfter, foundOf, FindsAll}
+use Rattle.walks.specs.Missing.{nodesOf, Opened, Trail, Sought, sought, missingRows, outAfter, foundOf, Finds, FindsAll}
 use Rattle.walks.specs.declared.missing.Seek.{Seek}
 use Rattle.walks.specs.declared.missing.Seek.the-variants.{Done, Over}
+use Rattle.scope.proofs.Tests.{clash}
+use Rattle.walks.proofs.Orders.{le-or}
 use Rattle.walks.proofs.Fronts.{front-length}
 use Rattle.walks.proofs.Specialised.{row-is}
 use Rattle.walks.proofs.BridgeTable.{clause-says}
+use Rattle.walks.proofs.BridgeDriver.{within-not}
 use Rattle.walks.proofs.PathSpread.{flatten-length}
 use Rattle.walks.proofs.MissingLimits.{done-is}
 use Rattle.walks.proofs.MissingBridge.{same-missing}
@@ -80,11 +86,11 @@ first-trail path alts lp la = record { deep = omega arith; longPath = lp; longAl
 module _ (bytes : List ℕ) where
   nodes-read : (m : Rows) → nodesIn (map (rowOf bytes) m) ≡ nodesOf m
   nodes-read [] = refl
-  nodes-read (r ∷ m) = omega (arith, nodes-read m, length-map r (Rattle.layout.specs.Nodes.nodeOf bytes))
+  nodes-read (r ∷ m) = omega (arith, nodes-read m, length-map r (nodeOf bytes))
 
   flat-read : (m : Rows) → rowOf bytes (flatten m) ≡ flatten (map (rowOf bytes) m)
   flat-read [] = refl
-  flat-read (r ∷ m) = map-append (Rattle.layout.specs.Nodes.nodeOf bytes) r (flatten m) ∙ ap (λ (x : Row). rowOf bytes r ++ x) (flat-read m)
+  flat-read (r ∷ m) = map-append (nodeOf bytes) r (flatten m) ∙ ap (λ (x : Row). rowOf bytes r ++ x) (flat-read m)
 
   answer-read : (w : Walk Rows) → sought 0 16384 0 0 w ≡ foundOf (turned (map (rowOf bytes)) w)
   unfolding sought foundOf
@@ -123,3 +129,44 @@ finds-all bytes nodes left counts ars starts low out oe r big e f kinds table t 
         let o : oe ≡ sets out 0 (flatten (w .result)) = f ∙ ap (outAfter out (w .result)) q in
         ap (rowOf bytes) (ap₂ take n o ∙ front-filled out (flatten (w .result)) (omega (arith, i .low)))
         ∙ flat-read bytes (w .result) ∙ ap (λ (v : Walk Matrix). flatten (v .result)) same
+
+-- a walk is within all limits exactly when no test of refusal 10 passes
+pub found-not : (w : Walk Matrix) → (within 0 maxCells w && leb (nodesIn (w .result)) maxMissing) ≡ not (ltb maxCalls (w .calls) || ltb maxCells (w .peak) || ltb maxMissing (nodesIn (w .result)))
+found-not w = ap₂ _&&_ (within-not w) (test-not (nodesIn (w .result)) maxMissing) ∙ not-or (ltb maxCalls (w .calls) || ltb maxCells (w .peak)) (ltb maxMissing (nodesIn (w .result)))
+  where
+    test-not : (a b : ℕ) → leb a b ≡ not (ltb b a)
+    test-not a b = ⊎-elim (λ l. le-leb a b l ∙ sym (ap not (le-ltb b a l))) (λ l. lt-leb a b l ∙ sym (ap not (lt-ltb b a l))) (le-or a b)
+
+    not-or : (a b : Bool) → (not a && not b) ≡ not (a || b)
+    not-or true b = refl
+    not-or false b = refl
+
+-- an answer that is done: nodes, rows and calls are those of `scope`, within all limits
+pub record AllFound (w : Walk Matrix) (n k c : ℕ) : Type 0 where
+  pub fits : (within 0 maxCells w && leb (nodesIn (w .result)) maxMissing) ≡ true
+  pub nodes : n ≡ nodesIn (w .result)
+  pub count : k ≡ length (w .result)
+  pub called : c ≡ w .calls
+
+module _ (bytes : List ℕ) (table : Table) (m : Matrix) (outEnd : List ℕ) where
+  pub found-done : (n k c : ℕ) → Finds bytes table m outEnd (Done n k c) → AllFound (collectMissingPatterns table 1 m) n k c
+  unfolding foundOf
+  found-done n k c f = go (within 0 maxCells w && leb (nodesIn (w .result)) maxMissing) refl (f .answer)
+    where
+      w : Walk Matrix
+      w = collectMissingPatterns table 1 m
+
+      go : (b : Bool) → (within 0 maxCells w && leb (nodesIn (w .result)) maxMissing) ≡ b → Done n k c ≡ cond b (Done (nodesIn (w .result)) (length (w .result)) (w .calls)) Over → AllFound w n k c
+      go true e q = record { fits = e; nodes = cc; count = cc; called = cc }
+      go false e q = clash (cc)
+
+  pub found-over : Finds bytes table m outEnd Over → (within 0 maxCells (collectMissingPatterns table 1 m) && leb (nodesIn (collectMissingPatterns table 1 m .result)) maxMissing) ≡ false
+  unfolding foundOf
+  found-over f = go (within 0 maxCells w && leb (nodesIn (w .result)) maxMissing) (f .answer)
+    where
+      w : Walk Matrix
+      w = collectMissingPatterns table 1 m
+
+      go : (b : Bool) → Over ≡ cond b (Done (nodesIn (w .result)) (length (w .result)) (w .calls)) Over → b ≡ false
+      go true q = clash (cc)
+      go false q = refl
