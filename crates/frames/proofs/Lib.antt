@@ -3,5 +3,7 @@ pub mod Hexadecimal
 pub mod Readers
 pub mod Readings
 pub mod Shapes
+pub mod Standing
+pub mod Framings
 pub mod Patterns
 pub mod Wholes

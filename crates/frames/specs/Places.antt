@@ -2,7 +2,7 @@
 use mathlib.Core.List.{List, [], _∷_}
 use mathlib.Core.Bool.{Bool, true, false}
 use Prim.Native.Nat.{ℕ, _-_}
-use lib.ListN.{length, drop}
+use lib.ListN.{length, drop, getD}
 use Rattle.scope.specs.Lists.{Text, bit}
 use Rattle.scope.specs.Types.{Ref}
 use Rattle.scope.specs.Patterns.{Raw, inner}
@@ -10,6 +10,7 @@ use Rattle.scope.specs.Frames as scope
 use Rattle.scope.specs.Frames.{fault, found, Reader, _>>=_, byte, within, flag, times, isUpper, isLower, isSmall, isBig, bigName, smallName, isDecimal, fieldsFor}
 use Rattle.frames.specs.declared.read.Read.{Read}
 use Rattle.frames.specs.declared.read.Read.the-variants.{At, Fault}
+use Rattle.frames.specs.declared.reader.Framed.{Framed}
 use Rattle.frames.specs.declared.shape.Pattern.{Pattern}
 use Rattle.frames.specs.declared.shape.Pattern as pattern
 
@@ -27,6 +28,10 @@ unfoldable pub whole : {A : Type 0} → scope.Read A → scope.Read A
 whole (fault rest) = fault rest
 whole (found a []) = found a []
 whole (found a (b ∷ rest)) = fault (b ∷ rest)
+
+-- the frame that a line holds: its kind, and what a reader that begins after the kind reaches
+unfoldable pub frameOf : List ℕ → Framed
+frameOf line = let k = getD line 0 0 in record { kind = k; end = readAt line 1 (λ bs. whole (scope.frame k bs)) }
 
 -- the bytes that may stand in a constructor's name (`big`) or in another, first or later
 abbrev pub letterOf : Bool → Bool → ℕ → Bool

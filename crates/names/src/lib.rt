@@ -7,9 +7,9 @@ ghost use Rattle.scope.specs.Frames.{isUpper, isLower, isDigit, isSmall, isBig,
 ghost use Rattle.scope.specs.Text.{startsWith, contains};
 
 // "::", "[]" and "__Tuple", one after another.
-pub const FIXED: [u8; 11] = *b"::[]__Tuple";
+const FIXED: [u8; 11] = *b"::[]__Tuple";
 
-pub const TUPLE: [u8; 7] = *b"__Tuple";
+const TUPLE: [u8; 7] = *b"__Tuple";
 
 pub fn fixed_names() -> [u8; 11]
     ensures { λ r. ⌜ r ≡ consName ++ nilName ++ tupleName ⌝ }

@@ -1,6 +1,7 @@
 -- For callers: a simplified row with its terminator stands at its place, the rows before it are kept, and more bytes change none of them.
 use mathlib.Core.Path.{_≡_, refl, sym, ap, ap₂, subst, _∙_}
 use mathlib.Core.Bool.{Bool, true, false, cond}
+use mathlib.Core.Logic.{inl, inr, ⊎-elim}
 use mathlib.Core.List.{List, [], _∷_, _++_}
 use mathlib.Core.Option.{Option, none, some}
 use Prim.Native.Nat.{ℕ, zero, suc, _+_, _*_, _-_, _/_, _%_, _≤_, _<_}
@@ -138,8 +139,8 @@ module _ (bytes more : List ℕ) where
   literal-grown : (p : ℕ) → WholeAt bytes p → literalAt (bytes ++ more) p ≡ literalAt bytes p
   unfolding literalAt
   literal-grown p h =
-      let l : suc p + 1 + getD bytes (suc p) 0 ≤ length bytes = omega (arith, ap (λ (i : ℕ). getD bytes i 0) (add-one p)) in
-      rw (at-grown p (omega arith), text-grown (suc p) l)
+      let l : suc p + 1 + getD bytes (suc p) 0 ≤ length bytes = omega (arith, h .whole, ap (λ (i : ℕ). getD bytes i 0) (add-one p)) in
+      rw (at-grown p (omega (arith, h .whole)), text-grown (suc p) l)
 
   node-grown : (n : ℕ) → (32768 ≤ n → WholeAt bytes (n - 32768)) → nodeOf (bytes ++ more) n ≡ nodeOf bytes n
   unfolding nodeOf
@@ -162,7 +163,9 @@ module _ (bytes more : List ℕ) where
   literals-grown (also {n} h q) = also (λ l. whole-grown (n - 32768) (h l)) (literals-grown q)
     where
       whole-grown : (p : ℕ) → WholeAt bytes p → WholeAt (bytes ++ more) p
-      whole-grown p w = omega (arith, at-grown (p + 1) (omega arith), length-append bytes more)
+      whole-grown p w =
+          let same : getD (bytes ++ more) p 0 ≡ getD bytes p 0 = at-grown p (omega (arith, w .whole)) in
+          record { known = ⊎-elim (λ k. inl (same ∙ k)) (λ k. inr (same ∙ k)) (w .known); whole = omega (arith, w .whole, at-grown (p + 1) (omega (arith, w .whole)), length-append bytes more) }
 
   -- more bytes change no row
   pub row-grown : {nodes left : List ℕ} {table : Table} {p : ℕ} {r : Row} → RowAt bytes nodes left table p r → RowAt (bytes ++ more) nodes left table p r

@@ -1,6 +1,7 @@
 -- The answer of `suits` means what `opened` makes of the pattern: from the table's shape in the slices, kind by kind.
 use mathlib.Core.Path.{_≡_, refl, sym, ap, _∙_}
 use mathlib.Core.Bool.{Bool, true, false, cond, _&&_, _||_}
+use mathlib.Core.Logic.{_⊎_, inl, inr}
 use mathlib.Core.List.{List, [], _∷_, map, append-nil}
 use mathlib.Core.Option.{Option, none, some}
 use Prim.Native.Nat.{ℕ, zero, suc, _+_, _*_, _-_, _/_, _%_, _≤_, _<_}
@@ -22,9 +23,9 @@ use Rattle.patterns.specs.declared.Suit.the-variants.{Leaf, Again, Cells
 use Rattle.patterns.proofs.Facts.{pair-facts, tuple-facts}
 use Rattle.patterns.proofs.Settled.{plain-one}
 
--- how many patterns an answer reads, and that its numbers are bytes; a literal has its own place and length
+-- how many patterns an answer reads, and that its numbers are bytes; a literal has its own place, kind and length
 abbrev pub Counted : List ℕ → ℕ → Suit → Raw → Type 0
-Counted bytes at (Leaf n) p = (inner p ≡ 0) × (placesIn (n ∷ []) ≡ ownPlace (at % 32768) p) × (32768 ≤ n → (n ≡ literalKey at) × (sizeAt bytes at ≡ 2 + getD bytes (at + 1) 0))
+Counted bytes at (Leaf n) p = (inner p ≡ 0) × (placesIn (n ∷ []) ≡ ownPlace (at % 32768) p) × (32768 ≤ n → (n ≡ literalKey at) × (sizeAt bytes at ≡ 2 + getD bytes (at + 1) 0) × ((getD bytes at 0 ≡ 3) ⊎ (getD bytes at 0 ≡ 4)))
 Counted bytes at Again p = (inner p ≡ 1) × (ownPlace at p ≡ [])
 Counted bytes at (Cells k tail) p = (inner p ≡ k + bit tail) × (ownPlace at p ≡ []) × (k < 256)
 Counted bytes at (Args c k w) p = (inner p ≡ k) × (ownPlace at p ≡ []) × (c < 256) × (k < 256) × (w < 256)
@@ -61,8 +62,8 @@ module _ (bytes kinds counts arities : List ℕ) (at t : ℕ) (small : (i : ℕ)
       go zero e = rw e (refl, plain-one 0 (omega arith), λ h. absurd (omega arith))
       go (suc zero) e = rw e (refl, plain-one 0 (omega arith), λ h. absurd (omega arith))
       go (suc (suc zero)) e = rw e (refl, refl)
-      go (suc (suc (suc zero))) e = rw e (on-kind (eqb (getD kinds t 0) 0) (Leaf (literalKey at)) (number (textAt bytes (suc at))) (refl, literal-place at, λ h. (refl, rw e refl)))
-      go (suc (suc (suc (suc zero)))) e = rw e (on-kind (eqb (getD kinds t 0) 1) (Leaf (literalKey at)) (string (textAt bytes (suc at))) (refl, literal-place at, λ h. (refl, rw e refl)))
+      go (suc (suc (suc zero))) e = rw e (on-kind (eqb (getD kinds t 0) 0) (Leaf (literalKey at)) (number (textAt bytes (suc at))) (refl, literal-place at, λ h. (refl, rw e refl, inl e)))
+      go (suc (suc (suc (suc zero)))) e = rw e (on-kind (eqb (getD kinds t 0) 1) (Leaf (literalKey at)) (string (textAt bytes (suc at))) (refl, literal-place at, λ h. (refl, rw e refl, inr e)))
       go (suc (suc (suc (suc (suc zero))))) e = rw e (on-kind (eqb (getD kinds t 0) 3) (Cells (getD bytes (at + 1) 0) (eqb (getD bytes (at + 2) 0) 1)) (listOf (getD bytes (at + 1) 0) (eqb (getD bytes (at + 2) 0) 1)) (refl, refl, small (at + 1)))
       go (suc (suc (suc (suc (suc (suc zero)))))) e =
           let p = constructor (getD bytes (at + 1) 0) (getD bytes (at + 2) 0) (eqb (getD bytes (at + 3) 0) 1) in

@@ -15,7 +15,7 @@ use Rattle.scope.specs.Types.{list, Table, typeAt, kind, ctors, fieldsAt, arity
 use Rattle.scope.specs.Patterns.{Node, wild, con, inner, Item, put, pat, cells, opened}
 use Rattle.layout.specs.Types.{Shape, Fielded}
 use Rattle.layout.specs.Nodes.{nodeOf, rowOf}
-use Rattle.patterns.specs.Raws.{rawAt, sizeAt, Literals, done, also, ownPlace, placesIn}
+use Rattle.patterns.specs.Raws.{rawAt, sizeAt, WholeAt, Literals, done, also, ownPlace, placesIn}
 use Rattle.patterns.specs.Suits.{keyOf, suitAt, meant, Sound}
 use Rattle.patterns.specs.Opens.{Open, opening, markOf, fieldItems, listItems, itemsOf, wanted, opens, pending, due, restOf, Due, Ends, Settled}
 use Rattle.patterns.specs.Rows.{low16, Became, Unless, Turned}
@@ -196,7 +196,7 @@ module _ (bytes kinds counts arities starts fields : List ℕ) (at t depth place
     turn-leaf n from nodes₁ stack′ nodes′ r e f g s =
         let k = known (Leaf n) e in
         turn-settled (n ∷ []) nodes₁ stack′ nodes′ (opens stack depth) depth from r f g (omega arith) (omega arith)
-        (λ i. also (λ h. subst (λ (x : ℕ). x + 2 + getD bytes (x + 1) 0 ≤ length bytes) (place-is k h) (omega (arith, k .2 h .1))) done)
+        (λ i. also (λ h. subst (λ (x : ℕ). WholeAt bytes x) (place-is k h) (record { known = k .2 h .2; whole = omega (arith, k .2 h .1) })) done)
         (k .1 ∙ ap (λ (x : ℕ). ownPlace x (rawAt bytes at)) here-is)
         (omega (arith, k .0))
         (λ table used shape fielded here. (put (nodeOf bytes n) ∷ [], sym (meaning (Leaf n) e table shape here .0), refl))

@@ -1,6 +1,7 @@
 -- A pattern as its bytes have it: which it is, and how many bytes it has without its inner ones.
 use mathlib.Core.Path.{_≡_}
 use mathlib.Core.Bool.{cond}
+use mathlib.Core.Logic.{_⊎_}
 use mathlib.Core.List.{List, [], _∷_, _++_}
 use Prim.Native.Nat.{ℕ, suc, _+_, _-_, _≤_}
 use lib.ListN.{length, getD, drop}
@@ -26,9 +27,10 @@ pub record Shaped (bytes : List ℕ) (from : ℕ) : Type 0 where
   pub raws : List Raw
   pub read : patterns 1 (drop from bytes) ≡ found raws []
 
--- the literal at a place stands whole among the bytes: its kind, its length, its text
-abbrev pub WholeAt : List ℕ → ℕ → Type 0
-WholeAt bytes p = p + 2 + getD bytes (p + 1) 0 ≤ length bytes
+-- the literal at a place stands whole among the bytes: its kind, 03 or 04, its length, its text
+pub record WholeAt (bytes : List ℕ) (p : ℕ) : Type 0 where
+  pub known : (getD bytes p 0 ≡ 3) ⊎ (getD bytes p 0 ≡ 4)
+  pub whole : p + 2 + getD bytes (p + 1) 0 ≤ length bytes
 
 -- every literal among the nodes stands whole among the bytes
 pub data Literals (bytes : List ℕ) : List ℕ → Type 0 where

@@ -17,7 +17,8 @@ use Rattle.scope.specs.Frames.{found, typeFrame, constructorFrame, patterns, ty
 use Rattle.scope.specs.Blocks as scope
 use Rattle.scope.specs.Blocks.{Block, types, constructors, clauses, closed, ok, _>>=_, need, suited, nodesIn, isFresh, isSound, afterType, withTable, withRow, enter}
 use Rattle.table.proofs.FrameBytes.{type-read}
-use Rattle.table.proofs.Tables.{add-is}
+use Rattle.table.specs.Build.{EndsInData}
+use Rattle.table.proofs.Tables.{data-ends, added-ends}
 use Rattle.table.proofs.TypeMeans.{Room, type-holds}
 use Rattle.table.proofs.CtorMeans.{ctor-holds}
 use Rattle.table.proofs.FreshMeans.{fresh-means}
@@ -30,9 +31,8 @@ use Rattle.patterns.proofs.Rows.{nodes-closed, left-closed, row-stands, row-kep
 use Rattle.reading.specs.declared.state.State.{State}
 use Rattle.reading.specs.declared.step.Step.{Step}
 use Rattle.reading.specs.declared.step.Step.the-variants.{On, Refused}
-use Rattle.reading.specs.Said.{Held, held, Sized, phaseOf, LastIsData, InPhase, Rows, Says, Stepped, goes, stops}
+use Rattle.reading.specs.Said.{Held, held, Sized, phaseOf, InPhase, Rows, Says, Stepped, goes, stops}
 use Rattle.reading.specs.Enters.{EntersType, EntersCtor, stale, fresh, EntersSubject, unsound, sound, EntersClause, unsuited, over, row, Ended}
-use Rattle.reading.proofs.Framing.{ends-in}
 
 -- no clause yet
 pub no-rows : (bytes nodes left rows : List ℕ) (count used : ℕ) (table : Table) → count ≡ 0 → used ≡ 0 → Rows bytes nodes left rows count used table []
@@ -50,7 +50,7 @@ type-phase opaque n e table = (ap phaseOf e, (omega arith, tt))
 type-phase (list t) n e table = (ap phaseOf e, (omega arith, tt))
 type-phase (tuple ts) n e table = (ap phaseOf e, (omega arith, tt))
 type-phase (pair a b) n e table = (ap phaseOf e, (omega arith, tt))
-type-phase (dat cs) n e table = (ap phaseOf e, (omega arith, record { front = table; made = cs; is = refl }))
+type-phase (dat cs) n e table = (ap phaseOf e, (omega arith, data-ends table cs))
 
 nodes-snoc : (m : Matrix) (r : Row) → nodesIn (m ++ r ∷ []) ≡ nodesIn m + length r
 nodes-snoc [] r = omega arith
@@ -127,24 +127,24 @@ module _ {h : Held} {s : State} {σ : scope.State} (z : Sized h) (w : Says h s �
       goes says
 
   -- 02 constructor
-  pub ctor-steps : (at : ℕ) (r : Step) {counts′ arities′ starts′ names′ fields′ labels′ : List ℕ} → EntersCtor (h .bytes) at s (h .counts) (h .arities) (h .starts) (h .names) (h .fields) (h .labels) counts′ arities′ starts′ names′ fields′ labels′ r → LastIsData (σ .block .table) → s .ctors < 256 → length (lastDeclared (σ .block .table)) < 32 → 0 < at → length (h .bytes) ≤ 65536
+  pub ctor-steps : (at : ℕ) (r : Step) {counts′ arities′ starts′ names′ fields′ labels′ : List ℕ} → EntersCtor (h .bytes) at s (h .counts) (h .arities) (h .starts) (h .names) (h .fields) (h .labels) counts′ arities′ starts′ names′ fields′ labels′ r → EndsInData (σ .block .table) → s .ctors < 256 → length (lastDeclared (σ .block .table)) < 32 → 0 < at → length (h .bytes) ≤ 65536
       → (c : Ctor) → constructorFrame (drop at (h .bytes)) ≡ found c [] → Stepped (held (h .bytes) (h .kinds) counts′ arities′ starts′ names′ fields′ labels′ (h .nodes) (h .left) (h .rows)) r (enter (σ .block) (constructorOf c))
   unfolding enter
   ctor-steps at r (stale f) d more free past short c frame =
-      let u : isFresh (σ .block .table) c ≡ false = sym (fresh-means (w .holds) (ends-in d) at c [] frame) ∙ f in
+      let u : isFresh (σ .block .table) c ≡ false = sym (fresh-means (w .holds) d at c [] frame) ∙ f in
       rw u (stops 7)
   ctor-steps at r {counts′} {arities′} {starts′} {names′} {fields′} {labels′} (fresh {r = r′} f n k) d more free past short c frame =
-      let u : isFresh (σ .block .table) c ≡ true = sym (fresh-means (w .holds) (ends-in d) at c [] frame) ∙ f in
+      let u : isFresh (σ .block .table) c ≡ true = sym (fresh-means (w .holds) d at c [] frame) ∙ f in
       let says : Says (held (h .bytes) (h .kinds) counts′ arities′ starts′ names′ fields′ labels′ (h .nodes) (h .left) (h .rows)) r′ (withTable constructors (addCtor (σ .block .table) c)) =
       record {
         phaseIs = ap phaseOf (n .phaseIs);
         low = omega (arith, n .phaseIs);
-        holds = rw (n .typesAre, n .ctorsAre, n .fieldsAre) (ctor-holds (w .holds) (ends-in d) room more free at past short c [] frame k);
+        holds = rw (n .typesAre, n .ctorsAre, n .fieldsAre) (ctor-holds (w .holds) d room more free at past short c [] frame k);
         few = omega (arith, n .ctorsAre);
         subjectIs = n .subjectIs;
         clausesAre = n .clausesAre;
         rowsAre = no-rows _ _ _ _ _ _ _ (n .countIs) (n .usedIs);
-        inPhase = record { front = d .front; made = d .made ++ c ∷ []; is = ap (λ (t : Table). addCtor t c) (d .is) ∙ add-is (d .front) (d .made) c };
+        inPhase = added-ends d c;
       } in
       rw u (goes says)
 

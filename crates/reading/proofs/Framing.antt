@@ -8,18 +8,18 @@ use lib.ListN.{length, getD, drop}
 use lib.Dec.{ltb, eqb}
 use Rattle.scope.proofs.Tests.{clash}
 use Rattle.scope.specs.Lists.{any}
-use Rattle.scope.specs.Types.{Ty, Ctor, Ref, Table, lastDeclared}
+use Rattle.scope.specs.Types.{Ty, Ctor, Ref, lastDeclared}
 use Rattle.scope.specs.Patterns.{Raw}
 use Rattle.scope.specs.Frames.{Read, fault, found, andThen, give, byte, typeFrame, constructorFrame, patterns, Frame, typeOf, constructorOf, subjectOf, clauseOf, end, isKind, frame}
 use Rattle.scope.specs.Blocks as scope
 use Rattle.scope.specs.Blocks.{Block, Phase, types, constructors, clauses, closed, standing, Step, ok, _>>=_, need, wholly, isSound, stands, hasRoom, enter, framed}
-use Rattle.table.proofs.Tables.{EndsInData}
+use Rattle.table.specs.Build.{EndsInData}
 use Rattle.table.proofs.CtorMeans.{last-type, last-declared}
 use Rattle.reading.specs.declared.state.State.{State}
-use Rattle.reading.specs.Said.{Held, LastIsData, InPhase, Says, standsIn, roomIn, checked}
+use Rattle.reading.specs.Said.{Held, InPhase, Says, standsIn, roomIn, checked}
 
 -- what stands in which phase
-pub at-constructor : (p : Phase) (b : Block) → any (eqb 2) (standing p) ≡ true → InPhase p b → LastIsData (b .table)
+pub at-constructor : (p : Phase) (b : Block) → any (eqb 2) (standing p) ≡ true → InPhase p b → EndsInData (b .table)
 at-constructor types b s h = clash (cc)
 at-constructor constructors b s h = h
 at-constructor clauses b s h = clash (cc)
@@ -36,9 +36,6 @@ at-end types b s h = clash (cc)
 at-end constructors b s h = clash (cc)
 at-end clauses b s h = h
 at-end closed b s h = clash (cc)
-
-pub ends-in : {table : Table} → LastIsData table → EndsInData table
-ends-in d = record { front = d .front; made = d .made; is = d .is }
 
 -- a test after another
 need-ok : {A : Type 0} (n : ℕ) (b : Bool) (x : Step A) (a : A) → (need n b >>= (λ _. x)) ≡ ok a → (b ≡ true) × (x ≡ ok a)
@@ -116,7 +113,7 @@ module _ {h : Held} {s : State} {σ : scope.State} (w : Says h s σ) where
   types-are = w .holds .types-are
 
   -- the data type just above a constructor
-  pub above : standsIn (s .phase) 2 ≡ true → LastIsData (σ .block .table)
+  pub above : standsIn (s .phase) 2 ≡ true → EndsInData (σ .block .table)
   unfolding standsIn
   above a = at-constructor (σ .phase) (σ .block) (ap (λ (p : Phase). any (eqb 2) (standing p)) (sym (w .phaseIs)) ∙ a) (w .inPhase)
 
@@ -129,11 +126,11 @@ module _ {h : Held} {s : State} {σ : scope.State} (w : Says h s σ) where
   sound-end a = at-end (σ .phase) (σ .block) (ap (λ (p : Phase). any (eqb 5) (standing p)) (sym (w .phaseIs)) ∙ a) (w .inPhase)
 
   pub some-type : standsIn (s .phase) 2 ≡ true → 0 < s .types
-  some-type a = omega (arith, last-type (w .holds) (ends-in (above a)))
+  some-type a = omega (arith, last-type (w .holds) (above a))
 
   module _ (last : ℕ) (lastIs : 0 < s .types → last ≡ getD (h .counts) (s .types - 1) 0) where
     pub last-is : standsIn (s .phase) 2 ≡ true → last ≡ length (lastDeclared (σ .block .table))
-    last-is a = lastIs (some-type a) ∙ last-declared (w .holds) (ends-in (above a))
+    last-is a = lastIs (some-type a) ∙ last-declared (w .holds) (above a)
 
     room-is : (k : ℕ) → standsIn (s .phase) k ≡ true → hasRoom (σ .block) k ≡ roomIn s last k
     unfolding hasRoom roomIn

@@ -4,4 +4,6 @@ pub mod Framing
 pub mod Entering
 pub mod Stepping
 pub mod Lines
+pub mod Whole
 pub mod Once
+pub mod Literals

@@ -5,7 +5,7 @@ use mathlib.Core.List.{List, [], _∷_, _++_}
 use Prim.Native.Nat.{ℕ, zero, suc, _+_, _*_, _-_, _%_, _≤_, _<_}
 use native.Mathlib.Omega.{arith}
 use native.Mathlib.Numerals.{add-one}
-use lib.ListN.{length, take, drop, replicate, length-append, take-append-drop, drop-of-length-le}
+use lib.ListN.{length, getD, take, drop, replicate, length-append, take-append-drop, drop-of-length-le}
 use lib.Seq.{sets, length-sets, length-take-le, getD-take, drop-at}
 use lib.Dec.{ltb, leb, eqb}
 use Rattle.scope.proofs.Tests.{clash, both}
@@ -20,6 +20,7 @@ use Rattle.frames.specs.declared.hex.Line as hex
 use Rattle.frames.specs.Digits.{TakenLine, RefusedLine, Lined}
 use Rattle.table.proofs.Held.{take-through}
 use Rattle.table.proofs.Carried.{empty-holds, more-holds}
+use Rattle.patterns.specs.Rows.{RowAt}
 use Rattle.patterns.proofs.Rows.{row-grown}
 use Rattle.reading.specs.declared.state.State.{State}
 use Rattle.reading.specs.declared.step.Step.{Step}
@@ -27,7 +28,7 @@ use Rattle.reading.specs.declared.step.Step.the-variants.{On, Refused}
 use Rattle.reading.specs.declared.file.Parsed as answers
 use Rattle.reading.specs.Said.{Held, held, Sized, phaseOf, Rows, Says, Stepped, goes, stops}
 use Rattle.reading.specs.Enters.{Numbers}
-use Rattle.reading.specs.Files.{HoldsBlock, ReadAs, aBlock, aFault}
+use Rattle.reading.specs.Files.{HoldsBlock, LinesAs}
 use Rattle.reading.proofs.Entering.{no-rows}
 
 -- the slices, with more bytes
@@ -125,8 +126,8 @@ stopped (stops m) n e = let i : m ≡ n = cc in ap refuse i
 
 module _ {file : List ℕ} {k i at : ℕ} {s : State} {h : Held} (v : Within file k i at s h) where
   -- 3
-  pub line-bad : {before after : List ℕ} {h′ : Held} → RefusedLine file i before after → ReadAs file h′ (answers.the-variants.Faulty 3 k)
-  line-bad t = aFault (v .onward ∙ ap (parse k (v .state)) (t .begins) ∙ parse-bad k (v .state) (t .line) (t .others) (t .bad))
+  pub line-bad : {before after : List ℕ} → RefusedLine file i before after → blockOf (lines file) ≡ faulty 3 k
+  line-bad t = v .onward ∙ ap (parse k (v .state)) (t .begins) ∙ parse-bad k (v .state) (t .line) (t .others) (t .bad)
 
   module _ (before after : List ℕ) (next to : ℕ) (t : TakenLine file i before at next to after) (so-far : h .bytes ≡ take at before) (fits : length file ≤ 2 * length before) where
     abbrev line-bytes : List ℕ
@@ -161,8 +162,8 @@ module _ {file : List ℕ} {k i at : ℕ} {s : State} {h : Held} (v : Within fil
       goes-on : blockOf (lines file) ≡ goOn k (framed (v .state) (drop at (take to after))) (λ σ′. parse (suc k) σ′ (lines (drop next file)))
       goes-on = v .onward ∙ ap (parse k (v .state)) (t .begins) ∙ parse-next k (v .state) (t .digitsOf) (lines (drop next file)) (t .good) ∙ ap (λ (bs : List ℕ). goOn k (framed (v .state) bs) (λ σ′. parse (suc k) σ′ (lines (drop next file)))) (sym line-is)
 
-      pub line-stops : (n : ℕ) → r ≡ Refused n → {h″ : Held} → ReadAs file h″ (answers.the-variants.Faulty n k)
-      line-stops n e = aFault (goes-on ∙ ap (λ (y : scope.Step scope.State). goOn k y (λ σ′. parse (suc k) σ′ (lines (drop next file)))) (stopped x n e))
+      pub line-stops : (n : ℕ) → r ≡ Refused n → blockOf (lines file) ≡ faulty n k
+      line-stops n e = goes-on ∙ ap (λ (y : scope.Step scope.State). goOn k y (λ σ′. parse (suc k) σ′ (lines (drop next file)))) (stopped x n e)
 
       pub line-goes : (s′ : State) → r ≡ On s′ → Sized h′ → Within file (k + 1) next to s′ h′
       line-goes s′ e z =
@@ -183,8 +184,8 @@ module _ {file : List ℕ} {k i at : ℕ} {s : State} {h : Held} (v : Within fil
     unfolding lines parse
     at-end = v .onward ∙ ap (λ (l : List ℕ). parse k (v .state) (lines l)) (drop-of-length-le file done)
 
-    pub no-end : (s .phase ≡ 3 → ⊥) → {h′ : Held} → ReadAs file h′ (answers.the-variants.Faulty 5 k)
-    no-end e = aFault (at-end ∙ ap (λ (p : Phase). finish k (record { phase = p; block = v .state .block })) (sym (v .says .phaseIs)) ∙ open-phase (s .phase) (v .says .low) e)
+    pub no-end : (s .phase ≡ 3 → ⊥) → blockOf (lines file) ≡ faulty 5 k
+    no-end e = at-end ∙ ap (λ (p : Phase). finish k (record { phase = p; block = v .state .block })) (sym (v .says .phaseIs)) ∙ open-phase (s .phase) (v .says .low) e
       where
         open-phase : (p : ℕ) → p ≤ 3 → (p ≡ 3 → ⊥) → finish k (record { phase = phaseOf p; block = v .state .block }) ≡ faulty 5 k
         open-phase zero l d = refl
@@ -193,7 +194,7 @@ module _ {file : List ℕ} {k i at : ℕ} {s : State} {h : Held} (v : Within fil
         open-phase (suc (suc (suc zero))) l d = absurd (d refl)
         open-phase (suc (suc (suc (suc p)))) l d = absurd (omega arith)
 
-    pub the-block : s .phase ≡ 3 → (bytes : List ℕ) → h .bytes ≡ take at bytes → ReadAs file (grown h bytes) (answers.the-variants.Block (s .subject) (s .clauses) (s .types))
+    pub the-block : s .phase ≡ 3 → (bytes : List ℕ) → h .bytes ≡ take at bytes → LinesAs file (grown h bytes) (answers.the-variants.Block (s .subject) (s .clauses) (s .types))
     the-block e bytes so-far =
         let b = v .state .block in
         let is : blockOf (lines file) ≡ parsed b = at-end ∙ ap (λ (p : Phase). finish k (record { phase = p; block = b })) (sym (v .says .phaseIs) ∙ ap phaseOf e) in
@@ -202,6 +203,7 @@ module _ {file : List ℕ} {k i at : ℕ} {s : State} {h : Held} (v : Within fil
         let g = block-good (lines file) b is in
         let few : s .clauses ≤ 64 = omega (arith, w .clausesAre, w .rowsAre .few) in
         let long : length (take (s .clauses) (h .rows)) ≡ length (b .rows) = length-take-le (s .clauses) (h .rows) (omega (arith, v .sized .rowsLong)) ∙ w .clausesAre in
+        let row : (j : ℕ) → j < length (b .rows) → RowAt bytes (h .nodes) (h .left) (b .table) (getD (take (s .clauses) (h .rows)) j 0) (getD (b .rows) j []) = λ j l. rw (getD-take (s .clauses) (h .rows) j 0 (omega (arith, w .clausesAre))) (w .rowsAre .each j l) in
         let there : HoldsBlock (grown h bytes) (s .subject) (s .clauses) (s .types) b =
         record {
           ctors = s .ctors;
@@ -211,11 +213,14 @@ module _ {file : List ℕ} {k i at : ℕ} {s : State} {h : Held} (v : Within fil
             same = v .sized .leftLong ∙ sym (v .sized .nodesLong);
             short = omega (arith, v .sized .nodesLong);
             many = long;
-            each = λ j l. rw (getD-take (s .clauses) (h .rows) j 0 (omega (arith, w .clausesAre))) (w .rowsAre .each j l .stands);
+            each = λ j l. row j l .stands;
           };
           subjectIs = w .subjectIs;
           clausesAre = w .clausesAre;
           sound = g .sound;
           typed = g .typed;
+          eachRow = row;
+          fewClauses = few;
+          sized = resized (v .sized) bytes;
         } in
-        aBlock b is there
+        (b, is, there)

@@ -1,17 +1,18 @@
 -- What the slices and the numbers of the code say: a state of the definitions.
 use mathlib.Core.Path.{_≡_}
 use mathlib.Core.Bool.{Bool, true, _&&_}
-use mathlib.Core.List.{List, [], _∷_, _++_}
+use mathlib.Core.List.{List, [], _∷_}
 use Prim.Native.Nat.{ℕ, zero, suc, _+_, _≤_, _<_}
 use lib.ListN.{length, getD}
 use lib.Dec.{ltb, eqb}
 use Rattle.scope.specs.Lists.{any}
-use Rattle.scope.specs.Types.{Ctor, dat, Table}
+use Rattle.scope.specs.Types.{Table}
 use Rattle.scope.specs.Patterns.{Matrix}
 use Rattle.scope.specs.Frames.{Frame, isKind, frame}
 use Rattle.scope.specs.Blocks as scope
 use Rattle.scope.specs.Blocks.{Block, Phase, types, constructors, clauses, closed, standing, ok, refuse, need, wholly, isSound, nodesIn, _>>=_}
 use Rattle.layout.specs.Types.{Holds}
+use Rattle.table.specs.Build.{EndsInData}
 use Rattle.patterns.specs.Rows.{RowAt}
 use Rattle.reading.specs.declared.state.State.{State}
 use Rattle.reading.specs.declared.step.Step.{Step}
@@ -55,16 +56,10 @@ phaseOf (suc zero) = constructors
 phaseOf (suc (suc zero)) = clauses
 phaseOf (suc (suc (suc n))) = closed
 
--- the last type is a data type, with these constructors declared so far
-pub record LastIsData (table : Table) : Type 0 where
-  pub front : Table
-  pub made : List Ctor
-  pub is : table ≡ front ++ dat made ∷ []
-
 -- what holds in each phase: a data type is just above a constructor; from the subject on the table is sound
 abbrev pub InPhase : Phase → Block → Type 0
 InPhase types b = Unit {0}
-InPhase constructors b = LastIsData (b .table)
+InPhase constructors b = EndsInData (b .table)
 InPhase clauses b = isSound (b .table) (b .subject) ≡ true
 InPhase closed b = isSound (b .table) (b .subject) ≡ true
 

@@ -6,7 +6,7 @@ use cells::at8;
 use cells::put16;
 use cells::wide8;
 use frames::read::Read;
-use frames::shape::frame;
+use frames::reader::read_frame;
 use patterns::Simplified;
 use patterns::close;
 use patterns::simplify;
@@ -250,7 +250,8 @@ fn kind_of(bytes: &[u8], at: usize, s: State, last: usize) -> Kind
     requires { ⌜ length (now bytes) ≤ 65536 ⌝ }
     ensures { λ r. ⌜ Kinded (now (bytes .entry)) at s last r ⌝ }
 {
-    let kind = at8(bytes, at);
+    let f = read_frame(&bytes[at..]);
+    let kind = f.kind;
     if kind == 0 {
         return Kind::Refused(4);
     }
@@ -263,8 +264,8 @@ fn kind_of(bytes: &[u8], at: usize, s: State, last: usize) -> Kind
     if !has_room(s, last, kind) {
         return Kind::Refused(6);
     }
-    let r = frame(bytes, at + 1, kind);
-    match r {
+    let end = f.end;
+    match end {
         Read::At(_) => Kind::Is(kind),
         Read::Fault(_) => Kind::Refused(4),
     }

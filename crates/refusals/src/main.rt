@@ -38,10 +38,6 @@ fn say_refused(number: u8, line: usize) {
 
 // What is said of one file.
 fn answer(file: &[u8]) {
-    if 49152 < file.len() {
-        say_refused(2, 0);
-        return;
-    }
     let mut bytes = [0u8; 24576];
     let mut kinds = [0u8; 64];
     let mut counts = [0u8; 64];

@@ -80,7 +80,7 @@ judged-at table before [] i l = absurd (not-suc-le-zero l)
 judged-at table before (r ∷ rs) zero l = rw (append-nil before)
 judged-at table before (r ∷ rs) (suc i) l = judged-at table (before ++ r ∷ []) rs i (le-of-suc-le-suc l) ∙ rw (append-assoc before (r ∷ []) (take i rs))
 
-judged-length : (table : Table) (before rs : Matrix) → length (judged table before rs .result) ≡ length rs
+pub judged-length : (table : Table) (before rs : Matrix) → length (judged table before rs .result) ≡ length rs
 unfolding judged
 judged-length table before [] = refl
 judged-length table before (r ∷ rs) = ap suc (judged-length table _ rs)

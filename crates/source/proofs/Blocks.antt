@@ -18,8 +18,7 @@ use Rattle.scope.specs.Blocks.{Block, Phase, types, constructors, clauses, clos
 use Rattle.source.specs.Agreement.{clauseIn, clausesIn}
 use Rattle.source.specs.Agreement as agreement
 use Rattle.scope.proofs.Tests.{clash}
-use Rattle.source.proofs.Texts.{Formed}
-use Rattle.source.proofs.Tables.{Of, Yields, give-yields, any-yields, bind-yields, constructor-yields, type-yields, GoodTypes, no-types, ctor-good, type-good}
+use Rattle.source.proofs.Tables.{Of, Yields, give-yields, any-yields, bind-yields, Declared, constructor-yields, type-yields, GoodTypes, no-types, ctor-good, type-good}
 
 -- each clause suits the subject's type and becomes its row
 pub data Simplifies (table : Table) (t : Ref) : List (List Raw) → Matrix → Type 0 where
@@ -46,7 +45,7 @@ record Sound (s : State) (raws : List (List Raw)) : Type 0 where
 -- the kind of a frame's byte, and what is so of what it holds
 data KindOf : ℕ → Frame → Type 0 where
   a-type : {ty : Ty} → declared ty ≡ [] → KindOf 1 (typeOf ty)
-  a-ctor : {c : Ctor} → Formed c → KindOf 2 (constructorOf c)
+  a-ctor : {c : Ctor} → Declared c → KindOf 2 (constructorOf c)
   a-subject : {t : Ref} → KindOf 3 (subjectOf t)
   a-clause : {ps : List Raw} → KindOf 4 (clauseOf ps)
   an-end : KindOf 5 end

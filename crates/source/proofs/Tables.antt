@@ -8,7 +8,7 @@ use lib.ListN.{length, getD}
 use lib.Dec.{leb}
 use borrow.Author.Tests.{leb-true, ne-eqb, not-true}
 use Rattle.scope.specs.Lists.{Text, bit, any, same, twice}
-use Rattle.scope.specs.Types.{Ref, Ctor, Ty, integer, byteString, opaque, list, tuple, pair, dat, Table, typeAt, nameOf, built, ctorsAt, consName, nilName, tupleName, declared, addCtor}
+use Rattle.scope.specs.Types.{Ref, Ctor, Ty, integer, byteString, opaque, list, tuple, pair, dat, Table, typeAt, kind, nameOf, built, ctorsAt, ctors, ctorAt, consName, nilName, tupleName, declared, addCtor}
 use Rattle.scope.specs.Frames.{Read, fault, found, Reader, andThen, _>>=_, give, byte, passing, within, flag, times, choosing, isUpper, isBig, name, bigName, smallName, typeKinds, typeFrame, fieldsFor, constructorFrame}
 use Rattle.scope.specs.Blocks.{isFresh}
 use Rattle.scope.proofs.Tests.{clash, both, neither}
@@ -60,6 +60,11 @@ big-yields = bind-yields (any-yields (within 1 32)) (λ n i. bind-yields (passin
     upper : (b : ℕ) → isUpper b ≡ true → (bs : List ℕ) → same (b ∷ bs) consName ≡ false
     upper b u bs = rw (ne-eqb b 58 (λ e. omega (arith, leb-true 65 b (both (leb 65 b) (leb b 90) u .0))))
 
+-- a constructor that a frame declares: it is not named "::", and labels are there for all fields or for none
+pub record Declared (c : Ctor) : Type 0 where
+  pub plain : same (c .name) consName ≡ false
+  pub labelled : Labelled (c .labels) (length (c .fields))
+
 -- labels for all fields or for none
 fields-yield : (labelled : Bool) (n : ℕ) → Yields (λ (r : List Ref × List Text). Labelled (r .1) (length (r .0))) (fieldsFor labelled n)
 fields-yield false n = bind-yields (any-yields (times n byte)) (λ ts i. give-yields bare)
@@ -70,57 +75,58 @@ fields-yield true (suc n) = bind-yields (any-yields byte) (λ t i. bind-yields (
     full zero = give-yields refl
     full (suc m) = bind-yields (any-yields byte) (λ t i. bind-yields (any-yields smallName) (λ l j. bind-yields (full m) (λ r e. give-yields (ap suc e))))
 
-pub constructor-yields : Yields Formed constructorFrame
+pub constructor-yields : Yields Declared constructorFrame
 unfolding constructorFrame
 constructor-yields =
     bind-yields big-yields (λ n plain. bind-yields (any-yields flag) (λ labelled i. bind-yields (any-yields (within (bit labelled) 16)) (λ k j.
-    bind-yields (fields-yield labelled k) (λ r h. give-yields (formed n plain r h)))))
-  where
-    formed : (n : Text) → same n consName ≡ false → (r : List Ref × List Text) → Labelled (r .1) (length (r .0)) → Formed (record { name = n; labels = r .1; fields = r .0 })
-    formed n plain r h = record { cell = λ e. clash (cc); labelled = h }
+    bind-yields (fields-yield labelled k) (λ r h. give-yields (record { plain = plain; labelled = h })))))
 
 -- a type frame declares no constructor
 pub type-yields : Yields (λ ty. declared ty ≡ []) typeFrame
 unfolding typeFrame
 type-yields = record { at = go }
   where
-    kind : (b : ℕ) (bs rest : List ℕ) → Of (λ ty. declared ty ≡ []) (getD typeKinds b (λ more. fault bs) rest)
-    kind zero bs rest = refl
-    kind (suc zero) bs rest = refl
-    kind (suc (suc zero)) bs rest = refl
-    kind (suc (suc (suc zero))) bs rest = bind-yields (any-yields byte) (λ e i. give-yields refl) .at rest
-    kind (suc (suc (suc (suc zero)))) bs rest = bind-yields (any-yields (within 2 16)) (λ n i. bind-yields (any-yields (times n byte)) (λ ts j. give-yields refl)) .at rest
-    kind (suc (suc (suc (suc (suc zero))))) bs rest = bind-yields (any-yields byte) (λ a i. bind-yields (any-yields byte) (λ b j. give-yields refl)) .at rest
-    kind (suc (suc (suc (suc (suc (suc zero)))))) bs rest = refl
-    kind (suc (suc (suc (suc (suc (suc (suc b))))))) bs rest = tt
+    ofKind : (b : ℕ) (bs rest : List ℕ) → Of (λ ty. declared ty ≡ []) (getD typeKinds b (λ more. fault bs) rest)
+    ofKind zero bs rest = refl
+    ofKind (suc zero) bs rest = refl
+    ofKind (suc (suc zero)) bs rest = refl
+    ofKind (suc (suc (suc zero))) bs rest = bind-yields (any-yields byte) (λ e i. give-yields refl) .at rest
+    ofKind (suc (suc (suc (suc zero)))) bs rest = bind-yields (any-yields (within 2 16)) (λ n i. bind-yields (any-yields (times n byte)) (λ ts j. give-yields refl)) .at rest
+    ofKind (suc (suc (suc (suc (suc zero))))) bs rest = bind-yields (any-yields byte) (λ a i. bind-yields (any-yields byte) (λ b j. give-yields refl)) .at rest
+    ofKind (suc (suc (suc (suc (suc (suc zero)))))) bs rest = refl
+    ofKind (suc (suc (suc (suc (suc (suc (suc b))))))) bs rest = tt
 
     go : (bs : List ℕ) → Of (λ ty. declared ty ≡ []) (choosing typeKinds bs)
     go [] = tt
-    go (b ∷ bs) = kind b (b ∷ bs) bs
+    go (b ∷ bs) = ofKind b (b ∷ bs) bs
 
--- every constructor of a list is formed
-pub data AllFormed : List Ctor → Type 0 where
-  none-formed : AllFormed []
-  also-formed : {c : Ctor} {cs : List Ctor} → Formed c → AllFormed cs → AllFormed (c ∷ cs)
+-- so is every constructor of a list
+pub data Each (P : Ctor → Type 0) : List Ctor → Type 0 where
+  none-so : Each P []
+  also-so : {c : Ctor} {cs : List Ctor} → P c → Each P cs → Each P (c ∷ cs)
 
-formed-at : {cs : List Ctor} → AllFormed cs → (c : ℕ) → c < length cs → Formed (getD cs c (built [] []))
-formed-at none-formed c l = absurd (omega arith)
-formed-at (also-formed h k) zero l = h
-formed-at (also-formed h k) (suc c) l = formed-at k c (omega arith)
+each-at : {P : Ctor → Type 0} {cs : List Ctor} → Each P cs → (c : ℕ) → c < length cs → P (getD cs c (built [] []))
+each-at none-so c l = absurd (omega arith)
+each-at (also-so h k) zero l = h
+each-at (also-so h k) (suc c) l = each-at k c (omega arith)
 
-formed-snoc : {cs : List Ctor} {c : Ctor} → AllFormed cs → Formed c → AllFormed (cs ++ c ∷ [])
-formed-snoc none-formed h = also-formed h none-formed
-formed-snoc (also-formed i k) h = also-formed i (formed-snoc k h)
+each-snoc : {P : Ctor → Type 0} {cs : List Ctor} {c : Ctor} → Each P cs → P c → Each P (cs ++ c ∷ [])
+each-snoc none-so h = also-so h none-so
+each-snoc (also-so i k) h = also-so i (each-snoc k h)
 
--- the constructors of one type
-pub record Good (cs : List Ctor) : Type 0 where
+each-map : {P Q : Ctor → Type 0} {cs : List Ctor} → ((c : Ctor) → P c → Q c) → Each P cs → Each Q cs
+each-map f none-so = none-so
+each-map f (also-so {c = c} h k) = also-so (f c h) (each-map f k)
+
+-- the constructors of one type: names differ, and each is so
+pub record Good (P : Ctor → Type 0) (cs : List Ctor) : Type 0 where
   pub differ : twice (map nameOf cs) ≡ false
-  pub formed : AllFormed cs
+  pub each : Each P cs
 
 -- the constructors that frames declare, of every type
 pub data GoodTypes : Table → Type 0 where
   no-types : GoodTypes []
-  also-type : {ty : Ty} {table : Table} → Good (declared ty) → GoodTypes table → GoodTypes (ty ∷ table)
+  also-type : {ty : Ty} {table : Table} → Good Declared (declared ty) → GoodTypes table → GoodTypes (ty ∷ table)
 
 -- one more name, new, at the end
 any-snoc : (t u : Text) (ts : List Text) → any (same t) ts ≡ false → same t u ≡ false → any (same t) (ts ++ u ∷ []) ≡ false
@@ -139,10 +145,10 @@ names-snoc : (cs : List Ctor) (c : Ctor) → map nameOf (cs ++ c ∷ []) ≡ map
 names-snoc [] c = refl
 names-snoc (x ∷ cs) c = ap (nameOf x ∷_) (names-snoc cs c)
 
-good-snoc : (cs : List Ctor) (c : Ctor) → Good cs → Formed c → any (same (c .name)) (map nameOf cs) ≡ false → Good (cs ++ c ∷ [])
-good-snoc cs c g f e = record { differ = rw (names-snoc cs c) (twice-snoc (c .name) (map nameOf cs) (g .differ) e); formed = formed-snoc (g .formed) f }
+good-snoc : (cs : List Ctor) (c : Ctor) → Good Declared cs → Declared c → any (same (c .name)) (map nameOf cs) ≡ false → Good Declared (cs ++ c ∷ [])
+good-snoc cs c g f e = record { differ = rw (names-snoc cs c) (twice-snoc (c .name) (map nameOf cs) (g .differ) e); each = each-snoc (g .each) f }
 
-pub ctor-good : {table : Table} (c : Ctor) → GoodTypes table → Formed c → isFresh table c ≡ true → GoodTypes (addCtor table c)
+pub ctor-good : {table : Table} (c : Ctor) → GoodTypes table → Declared c → isFresh table c ≡ true → GoodTypes (addCtor table c)
 unfolding isFresh
 ctor-good c no-types f e = no-types
 ctor-good c (also-type {ty = ty} g no-types) f e = also-type (good-snoc (declared ty) c g f (neither (any (same (c .name)) (map nameOf (declared ty))) (twice (c .labels)) (not-true _ e) .0)) no-types
@@ -150,12 +156,12 @@ ctor-good c (also-type g (also-type h k)) f e = also-type g (ctor-good c (also-t
 
 pub type-good : {table : Table} (ty : Ty) → GoodTypes table → declared ty ≡ [] → GoodTypes (table ++ ty ∷ [])
 unfolding twice
-type-good ty no-types e = also-type {ty = ty} (rw e (record { differ = refl; formed = none-formed })) no-types
+type-good ty no-types e = also-type {ty = ty} (rw e (record { differ = refl; each = none-so })) no-types
 type-good ty (also-type g k) e = also-type g (type-good ty k e)
 
-type-at : {table : Table} → GoodTypes table → (t : Ref) → Good (declared (typeAt table t))
+type-at : {table : Table} → GoodTypes table → (t : Ref) → Good Declared (declared (typeAt table t))
 unfolding twice
-type-at no-types t = record { differ = refl; formed = none-formed }
+type-at no-types t = record { differ = refl; each = none-so }
 type-at (also-type g k) zero = g
 type-at (also-type g k) (suc t) = type-at k t
 
@@ -163,18 +169,31 @@ built-formed : (n : Text) (fs : List Ref) → same n consName ≡ false → Form
 built-formed n fs h = record { cell = λ e. clash (cc); labelled = bare }
 
 -- what frames declare and what is built in
-all-good : (t : Ref) (ty : Ty) → Good (declared ty) → Good (ctorsAt t ty)
+all-good : (t : Ref) (ty : Ty) → Good Declared (declared ty) → Good Formed (ctorsAt t ty)
 unfolding twice same
-all-good t integer g = record { differ = refl; formed = none-formed }
-all-good t byteString g = record { differ = refl; formed = none-formed }
-all-good t opaque g = record { differ = refl; formed = none-formed }
-all-good t (list e) g = record { differ = refl; formed = also-formed (record { cell = λ i. refl; labelled = bare }) (also-formed (built-formed nilName [] refl) none-formed) }
-all-good t (tuple ts) g = record { differ = refl; formed = also-formed (built-formed tupleName ts refl) none-formed }
-all-good t (pair a b) g = record { differ = refl; formed = also-formed (built-formed tupleName (a ∷ b ∷ []) refl) none-formed }
-all-good t (dat cs) g = g
+all-good t integer g = record { differ = refl; each = none-so }
+all-good t byteString g = record { differ = refl; each = none-so }
+all-good t opaque g = record { differ = refl; each = none-so }
+all-good t (list e) g = record { differ = refl; each = also-so (record { cell = λ i. refl; labelled = bare }) (also-so (built-formed nilName [] refl) none-so) }
+all-good t (tuple ts) g = record { differ = refl; each = also-so (built-formed tupleName ts refl) none-so }
+all-good t (pair a b) g = record { differ = refl; each = also-so (built-formed tupleName (a ∷ b ∷ []) refl) none-so }
+all-good t (dat cs) g = record { differ = g .differ; each = each-map (λ c d. record { cell = λ e. clash (cc (e, d .plain)); labelled = d .labelled }) (g .each) }
 
 pub proper : {table : Table} → GoodTypes table → Proper table
 proper {table} h = record {
   named = record { differ = λ t. all-good t (typeAt table t) (type-at h t) .differ };
-  formed = λ t c l. formed-at (all-good t (typeAt table t) (type-at h t) .formed) c l;
+  formed = λ t c l. each-at (all-good t (typeAt table t) (type-at h t) .each) c l;
 }
+
+-- no declared constructor is named as a list cell is
+pub not-cell : {table : Table} → GoodTypes table → (t c : ℕ) → kind (typeAt table t) ≡ 6 → c < length (ctors table t) → same (ctorAt table t c .name) consName ≡ false
+not-cell {table} h t c k l = go (typeAt table t) (type-at h t) k l
+  where
+    go : (ty : Ty) → Good Declared (declared ty) → kind ty ≡ 6 → c < length (ctorsAt t ty) → same (getD (ctorsAt t ty) c (built [] []) .name) consName ≡ false
+    go integer g e i = clash (cc)
+    go byteString g e i = clash (cc)
+    go opaque g e i = clash (cc)
+    go (list a) g e i = clash (cc)
+    go (tuple ts) g e i = clash (cc)
+    go (pair a b) g e i = clash (cc)
+    go (dat cs) g e i = each-at (g .each) c i .plain

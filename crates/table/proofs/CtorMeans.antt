@@ -14,11 +14,11 @@ use Rattle.scope.specs.Types.{Ctor, Ty, opaque, dat, Table, typeAt, kind, field
 use Rattle.scope.specs.Frames.{found, constructorFrame}
 use Rattle.layout.specs.Types.{textAt, Whole, allFields, Labelled, bare, each, Holds}
 use Rattle.table.specs.Places.{places, labelled, reads}
-use Rattle.table.specs.Build.{low, flagAt, arityIn, isBare, fieldPlaces, labelsWith, WithCtor}
+use Rattle.table.specs.Build.{low, flagAt, arityIn, isBare, fieldPlaces, labelsWith, WithCtor, EndsInData}
 use Rattle.table.proofs.Loops.{length-map, length-places}
 use Rattle.table.proofs.FrameBytes.{length-labelled, LabelledAt, LabelsRead, without, with, CtorRead, ctor-read}
 use Rattle.table.proofs.Held.{sets-before, sets-after, sets-at, take-before, take-through, take-stored, CtorHeld, NameHeld, ctor-kept, name-kept}
-use Rattle.table.proofs.Tables.{length-snoc, type-old, type-new, each-type, ctor-inside, fields-more, all-fields-snoc, count-snoc, EndsInData, add-is, last-is, each-ctor, narrow-more}
+use Rattle.table.proofs.Tables.{length-snoc, type-old, type-new, each-type, ctor-inside, fields-more, all-fields-snoc, count-snoc, add-is, last-is, each-ctor, narrow-more}
 use Rattle.table.proofs.TypeMeans.{Room, ctor-held, name-held}
 
 getD-map : {A B : Type 0} (f : A → B) (l : List A) (i : ℕ) (d : A) (e : B) → i < length l → getD (map f l) i e ≡ f (getD l i d)

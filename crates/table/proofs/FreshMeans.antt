@@ -11,11 +11,11 @@ use Rattle.scope.specs.Frames.{found, constructorFrame}
 use Rattle.scope.specs.Blocks.{isFresh}
 use Rattle.layout.specs.Types.{textAt, Holds}
 use Rattle.table.specs.Places.{places, reads}
-use Rattle.table.specs.Build.{flagAt, arityIn, isBare}
+use Rattle.table.specs.Build.{flagAt, arityIn, isBare, EndsInData}
 use Rattle.table.specs.Fresh.{nameThere, labelTexts, isFreshIn}
 use Rattle.table.proofs.Slices.{any-index}
 use Rattle.table.proofs.FrameBytes.{LabelsRead, without, with, ctor-read}
-use Rattle.table.proofs.Tables.{type-new, EndsInData, last-is}
+use Rattle.table.proofs.Tables.{type-new, last-is}
 use Rattle.table.proofs.TypeMeans.{name-held}
 use Rattle.table.proofs.CtorMeans.{last-type, last-counted}
 

@@ -1,12 +1,12 @@
--- The slices of the type table after one more type, and after one more constructor.
+-- The slices of the type table after one more type, and after one more constructor of the data type just above.
 use mathlib.Core.Path.{_≡_}
 use mathlib.Core.Bool.{Bool, cond}
-use mathlib.Core.List.{List, [], _∷_, map}
+use mathlib.Core.List.{List, [], _∷_, _++_, map}
 use Prim.Native.Nat.{ℕ, _+_, _*_, _%_}
 use lib.ListN.{length, getD, set, replicate}
 use lib.Seq.{sets}
 use lib.Dec.{eqb}
-use Rattle.scope.specs.Types.{builtIns}
+use Rattle.scope.specs.Types.{Ctor, dat, Table, builtIns}
 use Rattle.table.specs.Places.{places, labelled, reads}
 
 -- a number as 16 bits hold it
@@ -65,3 +65,9 @@ pub record WithCtor (bytes : List ℕ) (at t used : ℕ) (counts arities starts 
   pub namesAre : names′ ≡ set names (32 * t + getD counts t 0) (low at)
   pub fieldsAre : fields′ ≡ sets fields used (reads bytes (fieldPlaces bytes (flagAt bytes at) (arityIn bytes at)))
   pub labelsAre : labels′ ≡ labelsWith bytes (flagAt bytes at) (arityIn bytes at) used labels
+
+-- the last type is a data type, with these constructors declared so far
+pub record EndsInData (table : Table) : Type 0 where
+  pub front : Table
+  pub made : List Ctor
+  pub is : table ≡ front ++ dat made ∷ []

@@ -1,7 +1,7 @@
 -- List cells: in the source's text a tail's text is "[]" exactly where the tail is "[]", since a list's tail is a list.
 use mathlib.Core.Path.{_≡_, refl, ap, ap₂, sym, subst, _∙_}
 use mathlib.Core.List.{List, [], _∷_, _++_}
-use mathlib.Core.Bool.{Bool, true, false, _&&_}
+use mathlib.Core.Bool.{Bool, true, false, _&&_, _||_}
 use mathlib.Core.Logic.{_⊎_, inl, inr}
 use Prim.Native.Nat.{ℕ, zero, suc, _+_, _-_, _/_, _%_, _<_}
 use native.Mathlib.Nat.{add-zero}
@@ -12,15 +12,15 @@ use borrow.Author.Tests.{ltb-true, ltb-false, eqb-true}
 use Rattle.scope.specs.Lists.{Text, bytes, same}
 use Rattle.scope.specs.Types.{Ref, Ctor, Ty, integer, byteString, opaque, list, tuple, pair, dat, Table, typeAt, kind, fieldsOf, built, ctorsAt, ctors, ctorAt, fieldsAt, arity, nilName}
 use Rattle.scope.specs.Patterns.{Literal, literalKind, int, byteArray, wild, lit, con, Row}
-use Rattle.scope.specs.Text.{commas, contains, skip, Mode, source, paste, Look, square, spelled, lookByName, look, isNil, textUnless, afterFirst, afterNext, alone, inTail, argumentText, tailCtor, prettyAt}
+use Rattle.scope.specs.Text.{commas, contains, skip, Mode, source, paste, Look, square, spelled, lookByName, look, isNil, textUnless, afterFirst, alone, inTail, argumentText, tailCtor, prettyAt}
 use Rattle.scope.proofs.Tests.{clash, both}
 use Rattle.layout.specs.Nodes.{literalAt}
-use Rattle.text.specs.Writing.{Wrote}
+use Rattle.writing.specs.Writing.{Wrote}
 use Rattle.text.specs.Rows.{Slices, Tabled, rowAt, Begins}
-use Rattle.text.specs.Printing.{modeOf, nilNode, patternText, squareText, cellText, Many, CellOf, Printed}
-use Rattle.text.proofs.Writing.{wrote-more, wrote-as}
+use Rattle.naming.specs.Naming.{modeOf, nilNode}
+use Rattle.text.specs.Printing.{patternText, restText, cellText, Many, CellOf, Printed}
+use Rattle.writing.proofs.Writing.{wrote-more, wrote-as}
 use Rattle.text.proofs.Rows.{Opened, opened, row-wild, row-lit, row-con, skip-none, skip-add, begins-skip}
-use Rattle.text.proofs.Printing.{around}
 use Rattle.text.proofs.Looks.{kind-is}
 use Rattle.text.proofs.Patterns.{tail-wild, tail-con}
 
@@ -146,19 +146,11 @@ module _ {s : Slices} {table : Table} (d : Tabled s table) {t : Ref} {us : List 
   first-is source = ap (λ (b : Bool). textUnless b (prettyAt source table inTail (rowAt s p))) (nil-text (rowAt s p) h v ∙ nil-is)
   first-is paste = ap (λ (b : Bool). textUnless b (prettyAt paste table inTail (rowAt s p))) nil-is
 
--- what stands after a list's element: `afterFirst` or `afterNext`
-abbrev pub Rest : Type 0
-Rest = Table → Row → Text → List Text
+-- what the definition puts after an element for the tail at m: nothing where the test holds, else the tail's text
+abbrev pub Puts : Slices → Mode → Bool → ℕ → Bool → Type 0
+Puts s mode early m b = (table : Table) → Tabled s table → (t : Ref) (us : List Ref) → kind (typeAt table t) ≡ 3 → Begins table (t ∷ us) (rowAt s m) → restText mode early table (rowAt s m) (prettyAt mode table inTail (rowAt s m)) ≡ textUnless b (prettyAt mode table inTail (rowAt s m))
 
--- the arguments of a list cell
-abbrev pub cellArguments : Mode → Rest → Table → Row → Text
-cellArguments mode rest table r = commas (prettyAt mode table alone r ∷ rest table (skip table r 1) (prettyAt mode table inTail (skip table r 1)))
-
--- what the definition puts there for the tail at m: nothing where the test holds, else the tail's text
-abbrev pub Puts : Slices → Mode → Rest → ℕ → Bool → Type 0
-Puts s mode rest m b = (table : Table) → Tabled s table → (t : Ref) (us : List Ref) → kind (typeAt table t) ≡ 3 → Begins table (t ∷ us) (rowAt s m) → rest table (rowAt s m) (prettyAt mode table inTail (rowAt s m)) ≡ textUnless b (prettyAt mode table inTail (rowAt s m))
-
-module _ {s : Slices} (mode : Mode) (rest : Rest) {p m : ℕ} {a b : List ℕ} {at k : ℕ} (h : Printed s (Many 1) p m a b at k (patternText mode alone)) where
+module _ {s : Slices} (mode : Mode) (early : Bool) {p m : ℕ} {a b : List ℕ} {at k : ℕ} (h : Printed s (Many 1) p m a b at k (patternText mode alone)) where
   -- a list cell's arguments are an element and a list
   module _ {table : Table} {ts : List Ref} (us : List Ref) (d : Tabled s table) (c : CellOf table ts) (v : Begins table (ts ++ us) (rowAt s p)) where
     two : length ts ≡ 2
@@ -176,39 +168,31 @@ module _ {s : Slices} (mode : Mode) (rest : Rest) {p m : ℕ} {a b : List ℕ} {
     after-two : skip table (rowAt s m) 1 ≡ skip table (rowAt s p) (length ts)
     after-two = ap (λ (r : Row). skip table r 1) (first .1) ∙ skip-add table (rowAt s p) 1 1 ∙ ap (skip table (rowAt s p)) (sym two)
 
-    put : (x : Bool) → Puts s mode rest m x → cellArguments mode rest table (rowAt s p) ≡ commas (prettyAt mode table alone (rowAt s p) ∷ textUnless x (prettyAt mode table inTail (rowAt s m)))
+    put : (x : Bool) → Puts s mode early m x → cellText mode early table (rowAt s p) ≡ commas (prettyAt mode table alone (rowAt s p) ∷ textUnless x (prettyAt mode table inTail (rowAt s m)))
     put x f =
-        ap (λ (r : Row). commas (prettyAt mode table alone (rowAt s p) ∷ rest table r (prettyAt mode table inTail r))) (sym (first .1))
+        ap (λ (r : Row). commas (prettyAt mode table alone (rowAt s p) ∷ restText mode early table r (prettyAt mode table inTail r))) (sym (first .1))
         ∙ ap (λ (ls : List Text). commas (prettyAt mode table alone (rowAt s p) ∷ ls)) (f table d (c .type) us (c .isList) tail)
 
-  pub cell-nil : Puts s mode rest m true → nilNode (s .kinds) (getD (s .nodes) m 0) ≡ true → Printed s CellOf p (m + 1) a b at k (cellArguments mode rest)
-  cell-nil f n = record { prints = λ table d ts us c v. (wrote-as (sym (put us d c v true f)) (first us d c v .0), sym (sym (after-two us d c v) ∙ nil-next d m (c .isList) (tail us d c v) n)) }
+  nil-cell : Puts s mode early m true → nilNode (s .kinds) (getD (s .nodes) m 0) ≡ true → Printed s CellOf p (m + 1) a b at k (cellText mode early)
+  nil-cell f n = record { prints = λ table d ts us c v. (wrote-as (sym (put us d c v true f)) (first us d c v .0), sym (sym (after-two us d c v) ∙ nil-next d m (c .isList) (tail us d c v) n)) }
 
-  pub cell-more : {q : ℕ} {c d : List ℕ} {l after : ℕ} → Puts s mode rest m false → Wrote b c k l (bytes ", ") → Printed s (Many 1) m q c d l after (patternText mode inTail) → Printed s CellOf p q a d at after (cellArguments mode rest)
-  cell-more f w i = record {
+  more-cell : {q : ℕ} {c d : List ℕ} {l after : ℕ} → Puts s mode early m false → Wrote b c k l (bytes ", ") → Printed s (Many 1) m q c d l after (patternText mode inTail) → Printed s CellOf p q a d at after (cellText mode early)
+  more-cell f w i = record {
     prints = λ table d ts us c v.
         let y = i .prints table d (c .type ∷ []) us (record { many = refl }) (tail us d c v) in
         (wrote-as (sym (put us d c v false f)) (wrote-more (wrote-more (first us d c v .0) w) (y .0)), y .1 ∙ after-two us d c v);
   }
 
 module _ (s : Slices) (m : ℕ) where
-  first-puts : (mode : Mode) (x : Bool) → x ≡ nilNode (s .kinds) (getD (s .nodes) m 0) → Puts s mode (afterFirst mode) m x
-  first-puts mode x e table d t us h v = first-is d m h v mode ∙ ap (λ (y : Bool). textUnless y (prettyAt mode table inTail (rowAt s m))) (sym e)
+  cell-puts : (early pasted x : Bool) → x ≡ ((early || pasted) && nilNode (s .kinds) (getD (s .nodes) m 0)) → Puts s (modeOf pasted) early m x
+  cell-puts true pasted x e table d t us h v = first-is d m h v (modeOf pasted) ∙ ap (λ (y : Bool). textUnless y (prettyAt (modeOf pasted) table inTail (rowAt s m))) (sym e)
+  cell-puts false false x e table d t us h v = ap (λ (y : Bool). textUnless y (prettyAt source table inTail (rowAt s m))) (sym e)
+  cell-puts false true x e table d t us h v = ap (λ (y : Bool). textUnless y (prettyAt paste table inTail (rowAt s m))) (nil-is d m h v ∙ sym e)
 
-  next-puts : (pasted x : Bool) → x ≡ (pasted && nilNode (s .kinds) (getD (s .nodes) m 0)) → Puts s (modeOf pasted) (afterNext (modeOf pasted)) m x
-  next-puts false x e table d t us h v = ap (λ (y : Bool). textUnless y (prettyAt source table inTail (rowAt s m))) (sym e)
-  next-puts true x e table d t us h v = ap (λ (y : Bool). textUnless y (prettyAt paste table inTail (rowAt s m))) (nil-is d m h v ∙ sym e)
+-- a list's first cell, or a further one
+module _ {s : Slices} (m : ℕ) {p : ℕ} {a b : List ℕ} {at k : ℕ} (early pasted : Bool) where
+  pub cell-nil : true ≡ ((early || pasted) && nilNode (s .kinds) (getD (s .nodes) m 0)) → Printed s (Many 1) p m a b at k (patternText (modeOf pasted) alone) → Printed s CellOf p (m + 1) a b at k (cellText (modeOf pasted) early)
+  cell-nil e h = nil-cell (modeOf pasted) early h (cell-puts s m early pasted true e) (both (early || pasted) (nilNode (s .kinds) (getD (s .nodes) m 0)) (sym e) .1)
 
--- a list in its brackets, and a further cell
-module _ {s : Slices} (m : ℕ) {p : ℕ} {a b : List ℕ} {at k : ℕ} where
-  pub square-nil : {c d : List ℕ} {l after : ℕ} (mode : Mode) → true ≡ nilNode (s .kinds) (getD (s .nodes) m 0) → Wrote a b at k (bytes "[") → Printed s (Many 1) p m b c k l (patternText mode alone) → Wrote c d l after (bytes "]") → Printed s CellOf p (m + 1) a d at after (squareText mode)
-  square-nil mode e w h v = around w (cell-nil mode (afterFirst mode) h (first-puts s m mode true e) (sym e)) v
-
-  pub square-more : {q : ℕ} {c d e f : List ℕ} {l n o after : ℕ} (mode : Mode) → false ≡ nilNode (s .kinds) (getD (s .nodes) m 0) → Wrote a b at k (bytes "[") → Printed s (Many 1) p m b c k l (patternText mode alone) → Wrote c d l n (bytes ", ") → Printed s (Many 1) m q d e n o (patternText mode inTail) → Wrote e f o after (bytes "]") → Printed s CellOf p q a f at after (squareText mode)
-  square-more mode e w h x i v = around w (cell-more mode (afterFirst mode) h (first-puts s m mode false e) x i) v
-
-  pub next-nil : (pasted : Bool) → true ≡ (pasted && nilNode (s .kinds) (getD (s .nodes) m 0)) → Printed s (Many 1) p m a b at k (patternText (modeOf pasted) alone) → Printed s CellOf p (m + 1) a b at k (cellText (modeOf pasted))
-  next-nil pasted e h = cell-nil (modeOf pasted) (afterNext (modeOf pasted)) h (next-puts s m pasted true e) (both pasted (nilNode (s .kinds) (getD (s .nodes) m 0)) (sym e) .1)
-
-  pub next-more : {q : ℕ} {c d : List ℕ} {l after : ℕ} (pasted : Bool) → false ≡ (pasted && nilNode (s .kinds) (getD (s .nodes) m 0)) → Printed s (Many 1) p m a b at k (patternText (modeOf pasted) alone) → Wrote b c k l (bytes ", ") → Printed s (Many 1) m q c d l after (patternText (modeOf pasted) inTail) → Printed s CellOf p q a d at after (cellText (modeOf pasted))
-  next-more pasted e h w i = cell-more (modeOf pasted) (afterNext (modeOf pasted)) h (next-puts s m pasted false e) w i
+  pub cell-more : {q : ℕ} {c d : List ℕ} {l after : ℕ} → false ≡ ((early || pasted) && nilNode (s .kinds) (getD (s .nodes) m 0)) → Printed s (Many 1) p m a b at k (patternText (modeOf pasted) alone) → Wrote b c k l (bytes ", ") → Printed s (Many 1) m q c d l after (patternText (modeOf pasted) inTail) → Printed s CellOf p q a d at after (cellText (modeOf pasted) early)
+  cell-more e h w i = more-cell (modeOf pasted) early h (cell-puts s m early pasted false e) w i

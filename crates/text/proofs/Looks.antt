@@ -1,23 +1,22 @@
 -- What the slices say of a constructor: its arity, its name, its labels and how it looks, for every table that they hold.
 use mathlib.Core.Path.{_≡_, refl, ap, ap₂, sym, subst, _∙_}
 use mathlib.Core.List.{List, [], _∷_}
-use mathlib.Core.Bool.{Bool, true, false, cond, _&&_}
+use mathlib.Core.Bool.{Bool, true, false, cond}
 use mathlib.Core.Logic.{_⊎_, inl, inr}
-use Prim.Native.Nat.{ℕ, zero, suc, _+_, _-_, _*_, _/_, _%_, _≤_, _<_}
+use Prim.Native.Nat.{ℕ, zero, suc, _+_, _*_, _/_, _%_, _≤_, _<_}
 use native.Mathlib.Nat.{add-zero, add-suc, suc-add}
 use native.Mathlib.Omega.{arith}
 use lib.ListN.{length, getD, List·getD-eq-default}
 use lib.Dec.{ltb, eqb}
-use borrow.Author.Tests.{ltb-true, ltb-false, eqb-true, eqb-false, eq-eqb, ne-eqb}
+use borrow.Author.Tests.{ltb-true, ltb-false, eqb-true, eqb-false}
 use Rattle.scope.specs.Lists.{Text, same}
 use Rattle.scope.specs.Types.{Ty, integer, byteString, opaque, list, tuple, pair, dat, Table, typeAt, kind, built, ctorsAt, ctors, ctorAt, arity, consName, tupleName}
 use Rattle.scope.specs.Text.{contains, Mode, source, paste, round, square, spelled, lookByName, lookByKind, look}
 use Rattle.scope.proofs.Tests.{clash}
 use Rattle.layout.specs.Types.{textAt, Labelled, bare, each}
-use Rattle.text.specs.Naming.{nameIn}
+use Rattle.naming.specs.Naming.{nameIn, lookIn}
 use Rattle.text.specs.Rows.{Slices, Tabled, labelTexts}
-use Rattle.text.specs.Printing.{modeOf, lookIn, nilNode}
-use Rattle.text.proofs.Naming.{name-law}
+use Rattle.naming.proofs.Naming.{name-law}
 
 -- a type with constructors is one of the table
 ctor-inside : (table : Table) (t c : ℕ) → c < length (ctors table t) → t < length table
@@ -188,40 +187,6 @@ labels-few {s} {table} h t c l = go (eqb (kind (typeAt table t)) 6) refl
     go : (b : Bool) → eqb (kind (typeAt table t)) 6 ≡ b → length (ctorAt table t c .labels) ≤ arity table t c
     go true e = few (h .named .labelsAt t c (eqb-true (kind (typeAt table t)) 6 e) l)
     go false e = omega (arith, ap length (plain-labels table t c (eqb-false (kind (typeAt table t)) 6 e)))
-
--- the code's tests of a node
-module _ (kinds : List ℕ) where
-  pub nil-zero : (n : ℕ) → n ≡ 0 → false ≡ nilNode kinds n
-  unfolding nilNode
-  nil-zero n e = sym (ap (nilNode kinds) e)
-
-  pub nil-tests : (n : ℕ) → (n ≡ 0 → ⊥) → nilNode kinds n ≡ (eqb (getD kinds ((n - 1) / 32) 0) 3 && eqb ((n - 1) % 32) 1)
-  unfolding nilNode
-  nil-tests zero z = absurd (z refl)
-  nil-tests (suc i) z = let e : i ≡ suc i - 1 = omega arith in ap (λ (j : ℕ). eqb (getD kinds (j / 32) 0) 3 && eqb (j % 32) 1) e
-
-  pub nil-kind : (n : ℕ) → (n ≡ 0 → ⊥) → (getD kinds ((n - 1) / 32) 0 ≡ 3 → ⊥) → false ≡ nilNode kinds n
-  nil-kind n z k = sym (nil-tests n z ∙ ap (λ (b : Bool). b && eqb ((n - 1) % 32) 1) (ne-eqb (getD kinds ((n - 1) / 32) 0) 3 k))
-
-  pub nil-number : (n : ℕ) → (n ≡ 0 → ⊥) → getD kinds ((n - 1) / 32) 0 ≡ 3 → eqb ((n - 1) % 32) 1 ≡ nilNode kinds n
-  nil-number n z k = sym (nil-tests n z ∙ ap (λ (b : Bool). b && eqb ((n - 1) % 32) 1) (eq-eqb (getD kinds ((n - 1) / 32) 0) 3 k))
-
--- a tail is left out after a further element in the paste text only
-pub closes-is : (pasted x y : Bool) → pasted ≡ true → x ≡ y → x ≡ (pasted && y)
-closes-is pasted x y e h = h ∙ sym (ap (λ (b : Bool). b && y) e)
-
-pub closes-not : (pasted y : Bool) → pasted ≡ false → false ≡ (pasted && y)
-closes-not pasted y e = sym (ap (λ (b : Bool). b && y) e)
-
--- the look that the code finds, by kind and by name
-module _ (bytes : List ℕ) (k c place : ℕ) (pasted : Bool) where
-  pub look-pasted : pasted ≡ true → lookByKind k c ≡ lookIn (modeOf pasted) bytes k c place
-  unfolding lookIn
-  look-pasted e = sym (ap (λ (b : Bool). lookIn (modeOf b) bytes k c place) e)
-
-  pub look-source : (name : Text) → pasted ≡ false → name ≡ nameIn bytes k c place → lookByName name ≡ lookIn (modeOf pasted) bytes k c place
-  unfolding lookIn
-  look-source name e h = ap lookByName h ∙ sym (ap (λ (b : Bool). lookIn (modeOf b) bytes k c place) e)
 
 -- the number of `Square` among the looks is 1
 pub not-one : {n : ℕ} → (n ≡ 0) ⊎ (n ≡ 2) → n ≡ 1 → ⊥

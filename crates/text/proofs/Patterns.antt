@@ -17,13 +17,14 @@ use Rattle.scope.proofs.Tests.{clash}
 use Rattle.scope.proofs.Texts.{pretty-law}
 use Rattle.layout.specs.Types.{textAt}
 use Rattle.layout.specs.Nodes.{literalAt}
-use Rattle.text.specs.Writing.{Wrote}
-use Rattle.text.specs.declared.name.Look as code
-use Rattle.text.specs.declared.name.Look.the-variants.{Round, Square, Spelled}
-use Rattle.text.specs.Naming.{nameIn, lookOf}
+use Rattle.writing.specs.Writing.{Wrote}
+use Rattle.naming.specs.declared.name.Look as code
+use Rattle.naming.specs.declared.name.Look.the-variants.{Round, Square, Spelled}
+use Rattle.naming.specs.Naming.{nameIn, lookOf, lookIn, labelText}
+use Rattle.naming.proofs.Nodes.{label-colon}
 use Rattle.text.specs.Rows.{Slices, Tabled, rowAt, labelTexts, Begins}
-use Rattle.text.specs.Printing.{lookIn, patternText, roundText, fieldTextAt, fieldsText, squareText, cellText, spelledText, ctorText, Many, FieldsOf, SpelledOf, CellOf, Printed}
-use Rattle.text.proofs.Writing.{wrote-none, wrote-more, wrote-as}
+use Rattle.text.specs.Printing.{patternText, roundText, fieldTextAt, fieldsText, squareText, cellText, spelledText, ctorText, Many, FieldsOf, SpelledOf, CellOf, Printed}
+use Rattle.writing.proofs.Writing.{wrote-none, wrote-more, wrote-as}
 use Rattle.text.proofs.Rows.{Opened, opened, row-wild, row-lit, row-con, skip-none}
 use Rattle.text.proofs.Printing.{printed-as, around, behind}
 use Rattle.text.proofs.Looks.{arity-is, name-is, look-is, square-is, spelled-is, labels-none, labels-are}
@@ -196,7 +197,7 @@ module _ {s : Slices} where
     pretty-con mode z l h = con-printed z l (λ table d ts f. (f, λ r. sym (on-con mode table ((n - 1) / 32) ((n - 1) % 32) r))) h
 
     module _ (mode : Mode) (w : code.Look) (shown : w ≡ lookOf (lookIn mode (s .bytes) (getD (s .kinds) ((n - 1) / 32) 0) ((n - 1) % 32) (getD (s .names) (n - 1) 0))) where
-      pub tail-cell : {q : ℕ} {a b : List ℕ} {at after : ℕ} → (n ≡ 0 → ⊥) → n < 32768 → w ≡ Square → Printed s CellOf (p + 1) q a b at after (cellText mode) → Printed s (Many 1) p q a b at after (patternText mode inTail)
+      pub tail-cell : {q : ℕ} {a b : List ℕ} {at after : ℕ} → (n ≡ 0 → ⊥) → n < 32768 → w ≡ Square → Printed s CellOf (p + 1) q a b at after (cellText mode false) → Printed s (Many 1) p q a b at after (patternText mode inTail)
       tail-cell z l e h = con-printed z l (λ table d ts f. (cell-of mode (n - 1) w shown e d f, λ r. ap (λ (k : Look). tailCtor mode table (prettyAt mode table) k ((n - 1) / 32) ((n - 1) % 32) r) (sym (look-as mode (n - 1) w shown square e d f)) ∙ sym (tail-con mode table ((n - 1) / 32) ((n - 1) % 32) r))) h
 
       pub tail-ctor : {q : ℕ} {a b : List ℕ} {at after : ℕ} → (n ≡ 0 → ⊥) → n < 32768 → (w ≡ Square → ⊥) → Printed s (FieldsOf (n - 1)) (p + 1) q a b at after (ctorText mode (n - 1)) → Printed s (Many 1) p q a b at after (patternText mode inTail)
@@ -208,10 +209,11 @@ module _ {s : Slices} where
           other table spelled u r = refl
 
     -- a field whose pattern is no wildcard
-    pub field-more : {q : ℕ} {a b c d : List ℕ} {at k l after : ℕ} (mode : Mode) (label : ℕ) → (n ≡ 0 → ⊥) → Wrote a b at k (textAt (s .bytes) label) → Wrote b c k l (bytes ": ") → Printed s (Many 1) p q c d l after (patternText mode alone) → Printed s (Many 1) p q a d at after (fieldTextAt mode s label)
-    field-more mode label z w x h = single (λ table d t us v.
+    pub field-more : {q : ℕ} {a b c : List ℕ} {at k after : ℕ} (mode : Mode) (label : ℕ) → (n ≡ 0 → ⊥) → Wrote a b at k (labelText (textAt (s .bytes) label) (getD (s .nodes) p 0)) → Printed s (Many 1) p q b c k after (patternText mode alone) → Printed s (Many 1) p q a c at after (fieldTextAt mode s label)
+    field-more mode label z w h = single (λ table d t us v.
         let y = h .prints table d (t ∷ []) us (record { many = refl }) v in
-        (wrote-as (named table t us v) (wrote-more (wrote-more w x) (y .0)), y .1))
+        let x = wrote-as (sym (label-colon (textAt (s .bytes) label) (getD (s .nodes) p 0) (λ e. z (is ∙ e)))) w in
+        (wrote-as (named table t us v) (wrote-more x (y .0)), y .1))
       where
         by-node : (table : Table) (r r′ : Row) (x : Node) → r ≡ x ∷ r′ → (x ≡ wild → ⊥) → (textAt (s .bytes) label ++ bytes ": ") ++ prettyAt mode table alone r ≡ fieldTextAt mode s label table r
         by-node table r r′ wild e o = absurd (o refl)

@@ -9,10 +9,10 @@ use Rattle.scope.specs.Lists.{Text, bytes}
 use Rattle.scope.specs.Types.{Ref, Table}
 use Rattle.scope.specs.Patterns.{Row}
 use Rattle.scope.specs.Text.{skip, Mode, alone}
-use Rattle.text.specs.Writing.{Wrote}
+use Rattle.writing.specs.Writing.{Wrote}
 use Rattle.text.specs.Rows.{Slices, Tabled, rowAt, labelTexts, Begins}
 use Rattle.text.specs.Printing.{patternText, textsText, fieldTextAt, fieldsText, Many, Printed}
-use Rattle.text.proofs.Writing.{wrote-none, wrote-more, wrote-as}
+use Rattle.writing.proofs.Writing.{wrote-none, wrote-more, wrote-as}
 use Rattle.text.proofs.Rows.{skip-none, skip-add, begins-skip}
 
 module _ {s : Slices} where

@@ -1,6 +1,3 @@
--- What the writers promise, and what the slices that they read hold.
-pub mod Writing
-pub mod Naming
+-- What the printer promises, and what the slices that it reads hold.
 pub mod Rows
 pub mod Printing
-pub mod Findings

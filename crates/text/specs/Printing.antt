@@ -1,33 +1,16 @@
 -- What each function of the printer promises.
 use mathlib.Core.Path.{_≡_}
-use mathlib.Core.List.{List, _++_}
-use mathlib.Core.Bool.{Bool, true, false, _&&_}
-use Prim.Native.Nat.{ℕ, zero, suc, _+_, _-_, _*_, _/_, _%_, _^_, _≤_, _<_}
-use lib.ListN.{length, getD}
-use lib.Dec.{eqb}
+use mathlib.Core.List.{List, _∷_, _++_}
+use mathlib.Core.Bool.{Bool, true, false}
+use Prim.Native.Nat.{ℕ, _+_, _-_, _*_, _/_, _%_, _^_, _≤_, _<_}
+use lib.ListN.{length}
 use Rattle.scope.specs.Lists.{Text, bytes}
 use Rattle.scope.specs.Types.{Ref, Table, typeAt, kind, ctors, fieldsAt}
 use Rattle.scope.specs.Patterns.{Row}
-use Rattle.scope.specs.Text.{commas, skip, Mode, source, paste, Look, square, spelled, look, lookByName, lookByKind, Place, texts, fieldText, fieldTexts, prettyCtor, tailCtor, prettyAt}
+use Rattle.scope.specs.Text.{commas, skip, Mode, square, spelled, look, afterFirst, afterNext, Place, alone, inTail, texts, fieldText, fieldTexts, prettyCtor, prettyAt}
 use Rattle.layout.specs.Types.{textAt}
-use Rattle.text.specs.Writing.{Wrote}
-use Rattle.text.specs.Naming.{nameIn}
+use Rattle.writing.specs.Writing.{Wrote}
 use Rattle.text.specs.Rows.{Slices, Tabled, rowAt, labelTexts, Begins}
-
--- the source's text, or the paste text
-abbrev pub modeOf : Bool → Mode
-modeOf false = source
-modeOf true = paste
-
--- how a constructor looks, by its name or by its type's kind
-unfoldable pub lookIn : Mode → List ℕ → ℕ → ℕ → ℕ → Look
-lookIn source bytes k c place = lookByName (nameIn bytes k c place)
-lookIn paste bytes k c place = lookByKind k c
-
--- is a node "[]" of a list
-unfoldable pub nilNode : List ℕ → ℕ → Bool
-nilNode kinds zero = false
-nilNode kinds (suc i) = eqb (getD kinds (i / 32) 0) 3 && eqb (i % 32) 1
 
 -- The texts that the functions write, each of patterns that begin a row. One pattern, by itself or as the tail of a list
 abbrev pub patternText : Mode → Place → Table → Row → Text
@@ -53,9 +36,14 @@ fieldsText mode s i n table r = commas (fieldTexts mode table (prettyAt mode tab
 abbrev pub squareText : Mode → Table → Row → Text
 squareText mode table r = prettyCtor mode table (prettyAt mode table) square 0 0 r
 
--- the arguments of a list cell in the brackets of an earlier one
-abbrev pub cellText : Mode → Table → Row → Text
-cellText mode table r = tailCtor mode table (prettyAt mode table) square 0 0 r
+-- what stands after a list's first element, or after a further one
+abbrev pub restText : Mode → Bool → Table → Row → Text → List Text
+restText mode true = afterFirst mode
+restText mode false = afterNext mode
+
+-- the arguments of a list's first cell, or of a further one, without brackets
+abbrev pub cellText : Mode → Bool → Table → Row → Text
+cellText mode first table r = commas (prettyAt mode table alone r ∷ restText mode first table (skip table r 1) (prettyAt mode table inTail (skip table r 1)))
 
 -- the constructor with the number i by its name, around its arguments
 abbrev pub spelledText : Mode → ℕ → Table → Row → Text

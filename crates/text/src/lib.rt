@@ -1,6 +1,3 @@
-// `pretty`, `pretty_tail`, paste text and the report's lines. A writer answers where the text ends, and leaves the buffer
-// with the text pasted at its place, cut at the buffer's end.
-pub mod lines;
-pub mod name;
+// `pretty` and `pretty_tail`, for the source's text and the paste text. A writer answers where the text ends, and leaves the
+// buffer with the text pasted at its place, cut at the buffer's end.
 pub mod pretty;
-pub mod put;

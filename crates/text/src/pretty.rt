@@ -1,23 +1,21 @@
 // `pretty` and `pretty_tail` over rows in prefix order: two functions that call one another, the nodes left falling.
-ghost use mathlib.Core.Path.{_≡_};
-ghost use mathlib.Core.Bool.{_&&_};
-ghost use Prim.Native.Nat.{_+_, _*_, _/_, _%_, _^_, _<_};
-ghost use lib.ListN.{length, getD};
+ghost use Prim.Native.Nat.{_+_, _*_, _^_, _<_};
+ghost use lib.ListN.{length};
 ghost use Rattle.scope.specs.Text.{alone, inTail};
-ghost use Rattle.text.specs.Naming.{lookOf};
+ghost use Rattle.naming.specs.Naming.{modeOf};
 ghost use Rattle.text.specs.Rows.{slices};
-ghost use Rattle.text.specs.Printing.{modeOf, lookIn, nilNode, patternText, textsText, roundText, fieldTextAt, fieldsText, squareText, cellText, spelledText, ctorText, Many, FieldsOf, SpelledOf, CellOf, Printed, Room, Moved};
-use crate::name::Look;
-use crate::name::label_at;
-use crate::name::look_by_kind;
-use crate::name::look_by_name;
-use crate::name::name_of;
-use crate::put::all;
-use crate::put::byte;
+ghost use Rattle.text.specs.Printing.{patternText, textsText, roundText, fieldTextAt, fieldsText, squareText, cellText, spelledText, ctorText, Many, FieldsOf, SpelledOf, CellOf, Printed, Room, Moved};
 use cells::at8;
 use cells::at16;
 use cells::wide8;
 use cells::wide16;
+use naming::name::Look;
+use naming::node::closes;
+use naming::node::look;
+use naming::node::put_label;
+use naming::node::put_name;
+use writing::all;
+use writing::byte;
 
 // What stands between two patterns.
 const COMMA: [u8; 2] = *b", ";
@@ -26,46 +24,6 @@ const COMMA: [u8; 2] = *b", ";
 pub struct Spot {
     pub at: usize,
     pub p: usize,
-}
-
-// Whether the node at p is "[]" of a list.
-fn is_nil(kinds: &[u8], nodes: &[u16], p: usize) -> bool
-    ensures { λ r. ⌜ r ≡ nilNode (now (kinds .entry)) (getD (now (nodes .entry)) p 0) ⌝ }
-{
-    let node = at16(nodes, p);
-    if node == 0 {
-        return false;
-    }
-    let i = wide16(node) - 1;
-    if at8(kinds, i / 32) != 3 {
-        return false;
-    }
-    i % 32 == 1
-}
-
-// Whether the tail at p is left out after a further element: "[]" in the paste text.
-fn closes(paste: bool, kinds: &[u8], nodes: &[u16], p: usize) -> bool
-    ensures { λ r. ⌜ r ≡ (paste && nilNode (now (kinds .entry)) (getD (now (nodes .entry)) p 0)) ⌝ }
-{
-    if paste {
-        return is_nil(kinds, nodes, p);
-    }
-    false
-}
-
-// How the constructor with the number i looks.
-fn look(paste: bool, bytes: &[u8], kinds: &[u8], names: &[u16], i: usize) -> Look
-    ensures { λ r. ⌜ r ≡ lookOf (lookIn (modeOf paste) (now (bytes .entry)) (getD (now (kinds .entry)) (i / 32) 0) (i % 32) (getD (now (names .entry)) i 0)) ⌝ }
-{
-    let kind = at8(kinds, i / 32);
-    if paste {
-        return look_by_kind(kind, i % 32);
-    }
-    let fixed = names::FIXED;
-    let cons = *b"::";
-    let tuple = names::TUPLE;
-    let name = name_of(&fixed, bytes, kind, i % 32, wide16(at16(names, i)));
-    look_by_name(name, &cons, &tuple)
 }
 
 // n patterns with ", " between them.
@@ -143,13 +101,11 @@ fn field(
     ensures { λ r. ⌜ Moved (length (now (nodes .entry))) p at (r .p) (r .at) 1 1 1022 ⌝ }
     ensures { λ r. ⌜ Printed (slices (now (bytes .entry)) (now (kinds .entry)) (now (arities .entry)) (now (starts .entry)) (now (names .entry)) (now (labels .entry)) (now (nodes .entry))) (Many 1) p (r .p) (now (out .entry)) (now (out .exit)) at (r .at) (fieldTextAt (modeOf paste) (slices (now (bytes .entry)) (now (kinds .entry)) (now (arities .entry)) (now (starts .entry)) (now (names .entry)) (now (labels .entry)) (now (nodes .entry))) label) ⌝ }
 {
-    let next = all(out, at, label_at(bytes, label));
+    let next = put_label(bytes, nodes, p, label, out, at);
     if at16(nodes, p) == 0 {
         let q = p + 1;
         return Spot { at: next, p: q };
     }
-    let colon = *b": ";
-    let after = all(out, next, &colon);
     pretty(
         paste,
         bytes,
@@ -161,7 +117,7 @@ fn field(
         nodes,
         p,
         out,
-        after,
+        next,
     )
 }
 
@@ -267,7 +223,7 @@ fn round(
     }
 }
 
-// A list: its first element, then its tail.
+// A list in its brackets.
 fn square(
     paste: bool,
     bytes: &[u8],
@@ -286,7 +242,8 @@ fn square(
     ensures { λ r. ⌜ Printed (slices (now (bytes .entry)) (now (kinds .entry)) (now (arities .entry)) (now (starts .entry)) (now (names .entry)) (now (labels .entry)) (now (nodes .entry))) CellOf p (r .p) (now (out .entry)) (now (out .exit)) at (r .at) (squareText (modeOf paste)) ⌝ }
 {
     let open = byte(out, at, b'[');
-    let first = pretty(
+    let inner = cell(
+        true,
         paste,
         bytes,
         kinds,
@@ -299,30 +256,10 @@ fn square(
         out,
         open,
     );
-    if is_nil(kinds, nodes, first.p) {
-        let close = byte(out, first.at, b']');
-        let q = first.p + 1;
-        return Spot { at: close, p: q };
-    }
-    let comma = COMMA;
-    let next = all(out, first.at, &comma);
-    let tail = pretty_tail(
-        paste,
-        bytes,
-        kinds,
-        arities,
-        starts,
-        names,
-        labels,
-        nodes,
-        first.p,
-        out,
-        next,
-    );
-    let close = byte(out, tail.at, b']');
+    let close = byte(out, inner.at, b']');
     Spot {
         at: close,
-        p: tail.p,
+        p: inner.p,
     }
 }
 
@@ -346,10 +283,7 @@ fn spelled(
     ensures { λ r. ⌜ Moved (length (now (nodes .entry))) p at (r .p) (r .at) 0 255 262144 ⌝ }
     ensures { λ r. ⌜ Printed (slices (now (bytes .entry)) (now (kinds .entry)) (now (arities .entry)) (now (starts .entry)) (now (names .entry)) (now (labels .entry)) (now (nodes .entry))) (SpelledOf (modeOf paste) i) p (r .p) (now (out .entry)) (now (out .exit)) at (r .at) (spelledText (modeOf paste) i) ⌝ }
 {
-    let fixed = names::FIXED;
-    let kind = at8(kinds, i / 32);
-    let name = name_of(&fixed, bytes, kind, i % 32, wide16(at16(names, i)));
-    let next = all(out, at, name);
+    let next = put_name(bytes, kinds, names, i, out, at);
     let n = wide8(at8(arities, i));
     if n == 0 {
         return Spot { at: next, p };
@@ -505,8 +439,9 @@ pub fn pretty(
     )
 }
 
-// A further cell of a list, in the same brackets.
+// The first cell of a list, or a further one in the same brackets: an element, then the tail.
 fn cell(
+    first: bool,
     paste: bool,
     bytes: &[u8],
     kinds: &[u8],
@@ -519,11 +454,11 @@ fn cell(
     out: &mut [u8],
     at: usize,
 ) -> Spot
-    requires { ⌜ Room (length (now nodes)) p at 255 262144 ⌝ }
-    ensures { λ r. ⌜ Moved (length (now (nodes .entry))) p at (r .p) (r .at) 0 255 262144 ⌝ }
-    ensures { λ r. ⌜ Printed (slices (now (bytes .entry)) (now (kinds .entry)) (now (arities .entry)) (now (starts .entry)) (now (names .entry)) (now (labels .entry)) (now (nodes .entry))) CellOf p (r .p) (now (out .entry)) (now (out .exit)) at (r .at) (cellText (modeOf paste)) ⌝ }
+    requires { ⌜ Room (length (now nodes)) p at 255 131072 ⌝ }
+    ensures { λ r. ⌜ Moved (length (now (nodes .entry))) p at (r .p) (r .at) 0 255 131072 ⌝ }
+    ensures { λ r. ⌜ Printed (slices (now (bytes .entry)) (now (kinds .entry)) (now (arities .entry)) (now (starts .entry)) (now (names .entry)) (now (labels .entry)) (now (nodes .entry))) CellOf p (r .p) (now (out .entry)) (now (out .exit)) at (r .at) (cellText (modeOf paste) first) ⌝ }
 {
-    let first = pretty(
+    let one = pretty(
         paste,
         bytes,
         kinds,
@@ -536,12 +471,12 @@ fn cell(
         out,
         at,
     );
-    if closes(paste, kinds, nodes, first.p) {
-        let q = first.p + 1;
-        return Spot { at: first.at, p: q };
+    if closes(first, paste, kinds, nodes, one.p) {
+        let q = one.p + 1;
+        return Spot { at: one.at, p: q };
     }
     let comma = COMMA;
-    let next = all(out, first.at, &comma);
+    let next = all(out, one.at, &comma);
     pretty_tail(
         paste,
         bytes,
@@ -551,7 +486,7 @@ fn cell(
         names,
         labels,
         nodes,
-        first.p,
+        one.p,
         out,
         next,
     )
@@ -589,6 +524,7 @@ fn pretty_tail(
     let l = look(paste, bytes, kinds, names, i);
     if let Look::Square = l {
         return cell(
+            false,
             paste,
             bytes,
             kinds,

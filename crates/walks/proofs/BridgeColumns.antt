@@ -13,10 +13,10 @@ use Rattle.scope.specs.Types.{Ref, Table, fieldsOf, ctors, alts}
 use Rattle.scope.specs.Patterns.{Row, Matrix}
 use Rattle.scope.specs.Walks.{beginsWith, seen, allSeen, columnType, Column, bare, part, full, columnAt, column}
 use Rattle.layout.specs.Types.{Shape}
-use Rattle.walks.specs.Numbers as numbers
-use Rattle.walks.specs.Numbers.{Rows, headOf, isCtor, firstOf, mem, allIn, baseOf, countOf, Seen, seenBy, seenOf}
+use Rattle.matrix.specs.Numbers as numbers
+use Rattle.matrix.specs.Numbers.{Rows, headOf, isCtor, firstOf, mem, allIn, baseOf, countOf, Seen, seenBy, seenOf}
 use Rattle.walks.specs.Bridge.{Says, wilds, lits, cons, SayRows, noRows, also}
-use Rattle.walks.proofs.Orders.{test}
+use Rattle.matrix.proofs.Orders.{test}
 use Rattle.walks.proofs.BridgeRows.{in-table, key-small}
 
 -- all of them, from the first on

@@ -11,7 +11,7 @@ use Rattle.scope.specs.Patterns.{Literal, Node, wild, lit, con, Row, Matrix}
 use Rattle.scope.proofs.Tests.{clash}
 use Rattle.layout.specs.Types.{Shape}
 use Rattle.layout.specs.Nodes.{literalAt, nodeOf, rowOf}
-use Rattle.walks.specs.Numbers.{Rows}
+use Rattle.matrix.specs.Numbers.{Rows}
 use Rattle.walks.specs.Bridge.{Says, done, wilds, lits, cons, SayRows, noRows, also}
 use Rattle.walks.proofs.BridgeRows.{key-small}
 
@@ -63,7 +63,7 @@ module _ (bytes : List ℕ) where
       let same : i - 32767 ≡ suc i - 32768 = omega arith in
       rw (le-ltb i 32767 (omega arith)) (ap (λ (p : ℕ). lit (literalAt bytes p)) same)
 
-  node-ctor : (h t c : ℕ) → h ≡ suc (32 * t + c) → c < 32 → h < 32768 → nodeOf bytes h ≡ con t c
+  pub node-ctor : (h t c : ℕ) → h ≡ suc (32 * t + c) → c < 32 → h < 32768 → nodeOf bytes h ≡ con t c
   unfolding nodeOf
   node-ctor zero t c e l s = absurd (omega arith)
   node-ctor (suc i) t c e l s =

@@ -13,12 +13,12 @@ use Rattle.scope.specs.Patterns.{Literal, sameLiteral, wild, Row, Matrix}
 use Rattle.scope.specs.Walks.{rowIf, specializeRowByCtor, specializeRowByLiteral, specializeRowByWildcard, eachRow, specializeByCtor, specializeByLiteral, specializeByWildcard}
 use Rattle.layout.specs.Types.{Shape}
 use Rattle.layout.specs.Nodes.{literalAt}
-use Rattle.walks.specs.Numbers.{Rows, arOf, sameNode, row1, rowsBy}
+use Rattle.matrix.specs.Numbers.{Rows, arOf, sameNode, row1, rowsBy}
 use Rattle.walks.specs.Bridge.{LiteralStands, Says, wilds, lits, cons, SayRows, noRows, also}
-use Rattle.walks.proofs.Orders.{le-or, test}
-use Rattle.walks.proofs.Arities.{arity-0, arity-lit}
-use Rattle.walks.proofs.Literals.{node-ctor, node-not, node-lit}
-use Rattle.walks.proofs.Specialised.{row1-wild, row1-none, row1-if}
+use Rattle.matrix.proofs.Orders.{le-or, test}
+use Rattle.matrix.proofs.Arities.{arity-0, arity-lit}
+use Rattle.matrix.proofs.Literals.{node-ctor, node-not, node-lit}
+use Rattle.matrix.proofs.Specialised.{row1-wild, row1-none, row1-if}
 use Rattle.walks.proofs.BridgeTexts.{literals}
 
 -- a type that has constructors is in the table

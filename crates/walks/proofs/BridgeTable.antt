@@ -1,7 +1,6 @@
 -- What the table of simplified patterns holds: at a clause's place a row of numbers runs, and it says the clause's row.
 use mathlib.Core.Path.{_≡_, refl, sym, ap, subst, _∙_}
-use mathlib.Core.Bool.{false}
-use mathlib.Core.List.{List, [], _∷_}
+use mathlib.Core.List.{List, [], _∷_, map}
 use Prim.Native.Nat.{ℕ, zero, suc, _+_, _*_, _-_, _≤_, _<_}
 use native.Mathlib.Nat.{add-zero}
 use native.Mathlib.Omega.{arith}
@@ -10,15 +9,14 @@ use lib.Seq.{drop-cons}
 use borrow.Author.Tests.{lt-ltb, le-ltb}
 use Rattle.scope.specs.Types.{Ref, Table, ctors, fieldsAt, arity}
 use Rattle.scope.specs.Patterns.{Node, wild, lit, con, Row, Matrix, Typed, done, wilds, lits, cons, TypedRows, noRows, also}
-use Rattle.scope.proofs.Tests.{clash}
 use Rattle.layout.specs.Types.{Shape}
 use Rattle.layout.specs.Nodes.{nodeOf, arguments, rowOf, leftOf, StandsAt}
-use Rattle.walks.specs.Numbers.{arOf, isCtor, baseOf, countOf}
-use Rattle.walks.specs.Places.{Narrow, Runs, ends, goes}
-use Rattle.walks.specs.Driver.{Starts}
+use Rattle.matrix.specs.Numbers.{arOf, isCtor, baseOf, countOf}
+use Rattle.matrix.specs.Places.{Narrow, Runs, ends, goes, Starts}
 use Rattle.walks.specs.Bridge as bridge
-use Rattle.walks.specs.Bridge.{LiteralStands, Says, Holding}
-use Rattle.walks.proofs.Arities.{arity-0, arity-lit}
+use Rattle.walks.specs.Bridge.{LiteralStands, Says, Holding, SayRows, noRows, also}
+use Rattle.matrix.proofs.Arities.{arity-0, arity-lit}
+use Rattle.matrix.proofs.Columns.{narrow-none}
 use Rattle.walks.proofs.BridgeRows.{key-arity}
 use Rattle.walks.proofs.BridgeNodes.{number-wild, number-literal, number-ctor}
 use Rattle.walks.proofs.BridgeColumns.{base-is, count-is}
@@ -37,13 +35,16 @@ module _ (bytes kinds nodes left counts ars : List ℕ) (table : Table) (sh : Sh
     pub says : Says bytes table ts (drop p nodes) r
 
   narrow-ctor : (t c h : ℕ) → h ≡ suc (32 * t + c) → c < length (ctors table t) → Narrow counts h
-  narrow-ctor t c h e l = record { few = λ q. omega (arith, ap (λ (x : ℕ). countOf counts (baseOf x)) e ∙ ap (countOf counts) (base-is bytes kinds counts ars table sh t c l) ∙ count-is bytes kinds counts ars table sh t c l, sh .inType t) }
+  narrow-ctor t c h e l =
+      let b : baseOf h ≡ suc (32 * t) = ap baseOf e ∙ base-is bytes kinds counts ars table sh t c l in
+      let k : countOf counts (baseOf h) ≡ length (ctors table t) = ap (countOf counts) b ∙ count-is bytes kinds counts ars table sh t c l in
+      record { few = λ q. omega (arith, k, sh .inType t); among = λ q. omega (arith, b, k) }
 
   narrow-lit : (h : ℕ) → 32768 ≤ h → Narrow counts h
-  narrow-lit h l = record { few = λ q. let z : isCtor h ≡ false = simp (lt-ltb 0 h (omega arith), le-ltb h 32768 l) in clash (cc) }
+  narrow-lit h l = narrow-none counts h (simp (lt-ltb 0 h (omega arith), le-ltb h 32768 l))
 
   narrow-wild : (h : ℕ) → h ≡ 0 → Narrow counts h
-  narrow-wild h e = record { few = λ q. let z : isCtor h ≡ false = ap isCtor e in clash (cc) }
+  narrow-wild h e = narrow-none counts h (ap isCtor e)
 
   -- what the slices say of a row x ∷ r at p: of its first node, and of the row after it at the next place
   record Cell (p k : ℕ) (x : Node) (r : Row) : Type 0 where
@@ -122,3 +123,10 @@ module _ (bytes kinds nodes left counts ars starts : List ℕ) (table : Table) (
 
   pub clause-says : (i : ℕ) → i < length m → Says bytes table (t ∷ []) (drop (getD starts i 0) nodes) (getD m i [])
   clause-says i l = clause-stood i l .says
+
+-- the rows of the clauses' places say the clauses
+pub rows-at : (bytes nodes : List ℕ) (table : Table) (ts : List Ref) (ps : List ℕ) (m : Matrix) → length ps ≡ length m → ((i : ℕ) → i < length m → Says bytes table ts (drop (getD ps i 0) nodes) (getD m i [])) → SayRows bytes table ts (map (λ p. drop p nodes) ps) m
+rows-at bytes nodes table ts [] [] e h = noRows
+rows-at bytes nodes table ts [] (r ∷ m) e h = absurd (omega arith)
+rows-at bytes nodes table ts (p ∷ ps) [] e h = absurd (omega arith)
+rows-at bytes nodes table ts (p ∷ ps) (r ∷ m) e h = also (h 0 (omega arith)) (rows-at bytes nodes table ts ps m (omega arith) (λ i l. h (suc i) (omega arith)))

@@ -1,6 +1,6 @@
 -- Literals compared by their bytes are the literals compared: same kind, same length, same text.
 use mathlib.Core.Path.{_≡_, refl, sym, ap, ap₂, subst, _∙_}
-use mathlib.Core.Logic.{⊎-elim, _⊎_}
+use mathlib.Core.Logic.{⊎-elim}
 use mathlib.Core.Bool.{false, _&&_}
 use mathlib.Core.List.{List}
 use Prim.Native.Nat.{ℕ, zero, suc, _+_, _≤_}
@@ -15,10 +15,10 @@ use Rattle.scope.specs.Patterns.{int, byteArray, sameLiteral}
 use Rattle.scope.proofs.Tests.{same-true}
 use Rattle.layout.specs.Types.{textAt}
 use Rattle.layout.specs.Nodes.{literalAt}
-use Rattle.walks.specs.Numbers.{agree, sameLit}
+use Rattle.matrix.specs.Numbers.{agree, sameLit}
 use Rattle.walks.specs.Bridge.{LiteralStands}
-use Rattle.walks.proofs.Orders.{same-or, test}
-use Rattle.walks.proofs.Literals.{lit-kind}
+use Rattle.matrix.proofs.Orders.{same-or, test}
+use Rattle.matrix.proofs.Literals.{lit-kind}
 
 -- texts of other lengths are other texts
 same-length : (s t : Text) → (length s ≡ length t → ⊥) → same s t ≡ false

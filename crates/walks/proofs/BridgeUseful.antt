@@ -2,7 +2,7 @@
 use mathlib.Core.Path.{_≡_, refl, sym, ap, ap₂, subst, _∙_}
 use mathlib.Core.Bool.{Bool, true, cond, _||_}
 use mathlib.Core.List.{List, [], _∷_, _++_, map}
-use Prim.Native.Nat.{ℕ, zero, suc, _+_, _*_, _-_, _≤_, _<_}
+use Prim.Native.Nat.{ℕ, zero, suc, _+_, _*_, _≤_, _<_}
 use native.Mathlib.Nat.{add-zero, zero-add}
 use native.Mathlib.Numerals.{add-one}
 use native.Mathlib.Omega.{arith}
@@ -12,12 +12,14 @@ use Rattle.scope.specs.Patterns.{wild, Row, Matrix}
 use Rattle.scope.specs.Walks.{Walk, holding, joined, tryEach, specializeByCtor, specializeByLiteral, specializeByWildcard, column, usefulWild, usefulHead, usefulBody, isUsefulStep, isUseful}
 use Rattle.scope.proofs.Steps.{useful-law}
 use Rattle.layout.specs.Types.{Shape}
-use Rattle.walks.specs.Numbers as numbers
-use Rattle.walks.specs.Numbers.{Rows, arOf, rowsBy, headOf, mem, countOf, seenOf, anyFrom, usefulAlt, usefulSeen, usefulStep, size, usefulIn, usefulOf}
+use Rattle.matrix.specs.Numbers as numbers
+use Rattle.walks.specs.Walks as walks
+use Rattle.matrix.specs.Numbers.{Rows, arOf, rowsBy, headOf, mem, countOf, seenOf}
+use Rattle.walks.specs.Walks.{anyFrom, usefulAlt, usefulSeen, usefulStep, size, usefulIn, usefulOf}
 use Rattle.walks.specs.Bridge.{Says, wilds, lits, cons, SayRows, noRows, also, SameUseful, SameRead}
-use Rattle.walks.proofs.Arities.{arity-0, arity-lit}
+use Rattle.matrix.proofs.Arities.{arity-0, arity-lit}
 use Rattle.walks.proofs.Measure.{size-default, size-alt, size-own, size-wild}
-use Rattle.walks.proofs.Turns.{in-each}
+use Rattle.matrix.proofs.Seen.{in-each}
 use Rattle.walks.proofs.BridgeRows.{key-arity, rows-length, says-wilds, say-default, say-literal, say-ctor}
 use Rattle.walks.proofs.BridgeNodes.{says-read, rows-read}
 use Rattle.walks.proofs.BridgeColumns.{column-says}
@@ -79,11 +81,11 @@ module _ (bytes kinds counts ars : List ℕ) (table : Table) (sh : Shape kinds c
         ∙ any-try (usefulAlt bytes counts ars again n m q) (λ c a. isUseful table (a + n) (specializeByCtor c a p) (replicate a wild ++ s)) (alts table t) (suc (32 * t)) 0 (each-is q s le h all count))
 
     -- by the head of the new row
-    own : (h : ℕ) (q : List ℕ) → (h ≡ 0 → ⊥) → numbers.usefulHead bytes counts ars again n m (h ∷ q) ≡ again (n + arOf ars h) (rowsBy bytes h (arOf ars h) m) q
+    own : (h : ℕ) (q : List ℕ) → (h ≡ 0 → ⊥) → walks.usefulHead bytes counts ars again n m (h ∷ q) ≡ again (n + arOf ars h) (rowsBy bytes h (arOf ars h) m) q
     own zero q ne = absurd (ne refl)
     own (suc h) q ne = refl
 
-    head-is : {q : List ℕ} {s : Row} → size (suc n) (q ∷ m) ≤ z → Says bytes table (t ∷ ts) q s → numbers.usefulHead bytes counts ars again n m q ≡ usefulHead table (isUseful table) n p s
+    head-is : {q : List ℕ} {s : Row} → size (suc n) (q ∷ m) ≤ z → Says bytes table (t ∷ ts) q s → walks.usefulHead bytes counts ars again n m q ≡ usefulHead table (isUseful table) n p s
     head-is le (wilds {ns = q} {r = s} h) = wild-is q s (omega (arith, size-wild (suc n) m q)) h
     head-is le (lits {h = x} {l = l} {ns = q} {r = s} xl xs xe h) =
         let a = arity-lit ars x low xl in
@@ -97,7 +99,7 @@ module _ (bytes kinds counts ars : List ℕ) (table : Table) (sh : Shape kinds c
 
   module _ (again : ℕ → Rows → List ℕ → Walk Bool) (z : ℕ)
       (deeper : (n : ℕ) (ts : List Ref) (m : Rows) (p : Matrix) (q : List ℕ) (s : Row) → n ≡ length ts → size n (q ∷ m) < z → SayRows bytes table ts m p → Says bytes table ts q s → again n m q ≡ isUseful table n p s) where
-    body-is : (n : ℕ) (ts : List Ref) {m : Rows} {p : Matrix} (q : List ℕ) (s : Row) → n ≡ length ts → size n (q ∷ m) ≤ z → SayRows bytes table ts m p → Says bytes table ts q s → numbers.usefulBody bytes counts ars again n m q ≡ usefulBody table (isUseful table) n p s
+    body-is : (n : ℕ) (ts : List Ref) {m : Rows} {p : Matrix} (q : List ℕ) (s : Row) → n ≡ length ts → size n (q ∷ m) ≤ z → SayRows bytes table ts m p → Says bytes table ts q s → walks.usefulBody bytes counts ars again n m q ≡ usefulBody table (isUseful table) n p s
     body-is n ts q s e le noRows h = refl
     body-is zero ts q s e le (also a b) h = refl
     body-is (suc n) [] q s e le (also a b) h = absurd (omega arith)

@@ -7,9 +7,10 @@ use native.Mathlib.Nat.{add-zero}
 use native.Mathlib.Omega.{arith}
 use lib.ListN.{length, replicate}
 use Rattle.scope.specs.Walks.{Walk, holding, joined}
-use Rattle.walks.specs.Numbers.{Rows, arOf, rowsBy, headOf, countOf, Seen, bare, part, full, seenOf, anyFrom, usefulAlt, usefulSeen, usefulHead, usefulBody, usefulStep, size, usefulIn, usefulOf}
+use Rattle.matrix.specs.Numbers.{Rows, arOf, rowsBy, headOf, countOf, Seen, bare, part, full, seenOf}
+use Rattle.walks.specs.Walks.{anyFrom, usefulAlt, usefulSeen, usefulHead, usefulBody, usefulStep, size, usefulIn, usefulOf}
 use Rattle.walks.proofs.Measure.{size-default, size-alt, size-own, size-wild}
-use Rattle.walks.proofs.Turns.{seen-whole}
+use Rattle.matrix.proofs.Seen.{seen-whole}
 
 -- two walks that agree on the constructors from key on agree up to the first yes
 pub any-same : (g h : ℕ → Walk Bool) (key k : ℕ) → ((j : ℕ) → j < k → g (key + j) ≡ h (key + j)) → anyFrom g key k ≡ anyFrom h key k

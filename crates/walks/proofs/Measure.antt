@@ -3,16 +3,17 @@ use mathlib.Core.Path.{_≡_, refl, sym, ap, _∙_}
 use mathlib.Core.Logic.{⊎-elim}
 use mathlib.Core.Bool.{Bool, true, false, cond}
 use mathlib.Core.List.{List, [], _∷_, _++_, map}
-use Prim.Native.Nat.{ℕ, zero, suc, _+_, _-_, _≤_, _<_}
+use Prim.Native.Nat.{ℕ, zero, suc, _+_, _≤_, _<_}
 use native.Mathlib.Omega.{arith}
 use lib.ListN.{replicate}
 use lib.Dec.{eqb}
 use borrow.Author.Tests.{ne-eqb}
 use Rattle.scope.proofs.Tests.{clash}
-use Rattle.walks.specs.Numbers.{Rows, arOf, sameNode, row1, rowsBy, headOf, mem, nonzero, nz, nzs, size}
-use Rattle.walks.proofs.Orders.{same-or}
-use Rattle.walks.proofs.Arities.{arity-0}
-use Rattle.walks.proofs.Literals.{node-self}
+use Rattle.matrix.specs.Numbers.{Rows, arOf, sameNode, row1, rowsBy, headOf, mem}
+use Rattle.walks.specs.Walks.{nonzero, nz, nzs, size}
+use Rattle.matrix.proofs.Orders.{same-or}
+use Rattle.matrix.proofs.Arities.{arity-0}
+use Rattle.matrix.proofs.Literals.{node-self}
 
 pub nz-wild : (k : ℕ) (r : List ℕ) → nz (replicate k 0 ++ r) ≡ nz r
 nz-wild zero r = refl

@@ -7,10 +7,11 @@ use native.Mathlib.Nat.{add-zero}
 use native.Mathlib.Omega.{arith}
 use lib.ListN.{length}
 use Rattle.scope.specs.Walks.{Walk, holding, turned, joined}
-use Rattle.walks.specs.Numbers.{Rows, arOf, rowsBy, headOf, mem, countOf, Seen, bare, part, full, seenOf, recover, unseenFrom, eachRow, gatherFrom, missingBy, missingSeen, missingBody, missingStep, size, missingIn, missingOf}
-use Rattle.walks.proofs.Arities.{arity-0}
+use Rattle.matrix.specs.Numbers.{Rows, arOf, rowsBy, headOf, mem, countOf, Seen, bare, part, full, seenOf, recover, eachRow}
+use Rattle.walks.specs.Walks.{unseenFrom, gatherFrom, missingBy, missingSeen, missingBody, missingStep, size, missingIn, missingOf}
+use Rattle.matrix.proofs.Arities.{arity-0}
 use Rattle.walks.proofs.Measure.{rows-fall, rows-fall-more}
-use Rattle.walks.proofs.Turns.{seen-whole}
+use Rattle.matrix.proofs.Seen.{seen-whole}
 
 -- the calls that a step makes are smaller
 module _ (bytes ars : List ℕ) (n : ℕ) (m : Rows) where

@@ -3,18 +3,14 @@ use mathlib.Core.Path.{_≡_}
 use mathlib.Core.Logic.{_⊎_}
 use mathlib.Core.List.{List, [], _∷_, _++_, map}
 use Prim.Native.Nat.{ℕ, suc, _+_, _*_, _-_, _≤_, _<_}
-use lib.ListN.{length, getD, take}
-use lib.Seq.{sets}
-use Rattle.scope.specs.Lists.{bit}
+use lib.ListN.{length, getD}
 use Rattle.scope.specs.Types.{Ref, Table, ctors, fieldsAt}
 use Rattle.scope.specs.Patterns.{Literal, wild, lit, con, Row, Matrix, TypedRows}
-use Rattle.scope.specs.Walks.{isUseful}
-use Rattle.scope.specs.Report.{judged}
+use Rattle.scope.specs.Walks.{isUseful, turned, collectMissingPatterns}
 use Rattle.layout.specs.Types.{Shape}
 use Rattle.layout.specs.Nodes.{literalAt, rowOf, HoldsRows}
-use Rattle.walks.specs.declared.useful.Judged.{Judged}
-use Rattle.walks.specs.Numbers.{Rows, usefulOf}
-use Rattle.walks.specs.Driver.{answered, written}
+use Rattle.matrix.specs.Numbers.{Rows}
+use Rattle.walks.specs.Walks.{usefulOf, missingOf}
 
 -- a literal's bytes at a place: its kind, 03 or 04, its length, and that many bytes
 pub record LiteralStands (bytes : List ℕ) (p : ℕ) : Type 0 where
@@ -47,6 +43,13 @@ SameRead =
     → (ts : List Ref) (m : Rows) (p : Matrix) (q : List ℕ) (s : Row) → SayRows bytes table ts m p → Says bytes table ts q s
     → usefulOf bytes counts arities (length ts) m q ≡ isUseful table (length ts) (map (rowOf bytes) m) (rowOf bytes q)
 
+-- the rows that numbers say, of every walk: calls and cells are the same, and the rows that are read from the rows of numbers
+abbrev pub SameMissing : Type 0
+SameMissing =
+    (bytes kinds counts arities : List ℕ) (table : Table) → Shape kinds counts arities table → length arities < 32768
+    → (ts : List Ref) (m : Rows) (p : Matrix) → SayRows bytes table ts m p
+    → turned (map (rowOf bytes)) (missingOf bytes counts arities (length ts) m) ≡ collectMissingPatterns table (length ts) p
+
 -- every literal in the rows stands whole among the bytes
 pub record LiteralsWhole (bytes nodes starts : List ℕ) (m : Matrix) : Type 0 where
   pub each : (i j : ℕ) → i < length m → j < length (getD m i []) → 32768 ≤ getD nodes (getD starts i 0 + j) 0 → LiteralStands bytes (getD nodes (getD starts i 0 + j) 0 - 32768)
@@ -57,12 +60,3 @@ pub record Holding (bytes kinds nodes left counts arities starts : List ℕ) (ta
   pub rows : HoldsRows bytes nodes left starts table m
   pub literals : LiteralsWhole bytes nodes starts m
   pub typed : TypedRows table (t ∷ []) m
-
--- the driver of `scope` under the limits: its answer, and its verdicts, up to the first clause that is too much work
-pub record Judges (table : Table) (m : Matrix) (v₀ v : List ℕ) (r : Judged) : Type 0 where
-  pub answer : r ≡ answered (judged table [] m)
-  pub verdicts : v ≡ sets v₀ 0 (map bit (written (λ k. judged table [] (take k m)) (length m)))
-
--- for every block that the slices hold
-abbrev pub JudgesAll : List ℕ → List ℕ → List ℕ → List ℕ → List ℕ → List ℕ → List ℕ → List ℕ → Judged → Type 0
-JudgesAll bytes nodes left counts arities starts v₀ v r = (kinds : List ℕ) (table : Table) (t : Ref) (m : Matrix) → Holding bytes kinds nodes left counts arities starts table t m → Judges table m v₀ v r

@@ -1,5 +1,1 @@
-// The two walks over the table of simplified patterns: a row of a matrix is one number, a place of the table.
-pub mod column;
-pub mod missing;
-pub mod rows;
-pub mod useful;
+// The two walks on rows of numbers, and that they are those of `scope`: the definitions and laws that both walks in code share. No code that runs.

@@ -1,82 +1,34 @@
 -- `cells::clear` meets its contract: before i all is zero, from i on all is as it was.
-use Rattle.cells.proofs.Laws.{zeros-length}
-use borrow.Author.Fill.{fill-none, fill-more}
+use Prim.Native.Nat.{_-_}
 use native.Mathlib.Omega.{arith}
-use borrow.Author.Needs.{needs}
-use lib.ListN.{length, getD, take, drop, set, replicate, drop-of-length-le}
-use mathlib.Core.List.{List, [], _∷_, _++_, map, append-nil}
-use Prim.Native.Nat.{ℕ, zero, suc, _+_, _-_, _/_, _≤_, _<_}
-use mathlib.Core.Path.{_≡_, refl, sym, ap, subst, _∙_}
+use lib.ListN.{length}
+use Rattle.cells.proofs.Laws.{Cleared, cleared-none, cleared-length, cleared-more, cleared-all}
 use Rattle.cells.proofs.clear.Statement.{statement}
 use Rattle.cells.proofs.clear.Tie as tie
 
 abbrev Inv-loop : tie.InvT-loop
-Inv-loop s₀ i₀ s i = (i ≤ length s₀) × (s ≡ replicate i 0 ++ drop i s₀)
+Inv-loop s₀ i₀ s i = Cleared s₀ i s
 
 abbrev μ-loop : tie.MeasureT-loop
 μ-loop s₀ i₀ s i = length s₀ - i
 
 loop-holds : tie.Need-loop-holds Inv-loop μ-loop
-loop-holds c = (omega arith, fill-none (c .args .s .now) 0)
+loop-holds c = cleared-none (c .before .args .s .now)
 
-mul-s : tie.Need-mul-s Inv-loop μ-loop
-mul-s c =
-    let a = c .before .before .args in
-    let p = c .before in
-    let len : length (p .loop .s) ≡ length (a .s .now) = ap length (p .loop .inv .1) ∙ zeros-length (a .s .now) (p .loop .i) (p .loop .inv .0) in
-    omega (arith, len)
-
-slice-write-s : tie.Need-slice-write-s Inv-loop μ-loop
-slice-write-s c = omega arith
-
-add-i : tie.Need-add-i Inv-loop μ-loop
-add-i c =
-    let a = c .before .before .args in
-    let p = c .before in
-    let len : length (p .loop .s) ≡ length (a .s .now) = ap length (p .loop .inv .1) ∙ zeros-length (a .s .now) (p .loop .i) (p .loop .inv .0) in
-    omega (arith, len)
+put16-requires : tie.Need-put16-requires Inv-loop μ-loop
+put16-requires c κs = omega (arith, cleared-length (c .before .before .loop .inv))
 
 loop-less : tie.Need-loop-less Inv-loop μ-loop
-loop-less c =
-    let a = c .before .before .args in
-    let p = c .before in
-    let len : length (p .loop .s) ≡ length (a .s .now) = ap length (p .loop .inv .1) ∙ zeros-length (a .s .now) (p .loop .i) (p .loop .inv .0) in
-    omega (arith, len)
+loop-less c = omega (arith, cleared-length (c .before .before .before .before .before .loop .inv), c .before .before .put16 .ensures .0)
 
 loop-again : tie.Need-loop-again Inv-loop μ-loop
-loop-again c =
-    let a = c .before .before .args in
-    let p = c .before in
-    let len : length (p .loop .s) ≡ length (a .s .now) = ap length (p .loop .inv .1) ∙ zeros-length (a .s .now) (p .loop .i) (p .loop .inv .0) in
-    (omega (arith, len), ap (λ (x : List ℕ). set x (p .loop .i) 0) (p .loop .inv .1) ∙ fill-more (p .loop .i) 0 (a .s .now) (omega (arith, len)))
+loop-again c = cleared-more (c .before .before .before .before .before .loop .inv) (omega arith) (c .before .before .put16 .ensures .0) (c .before .before .put16 .ensures .1)
 
 same-length : tie.Need-same-length Inv-loop μ-loop
-same-length c =
-    let a = c .before .before .args in
-    let p = c .before in
-    let len : length (p .loop .s) ≡ length (a .s .now) = ap length (p .loop .inv .1) ∙ zeros-length (a .s .now) (p .loop .i) (p .loop .inv .0) in
-    len
+same-length c = cleared-length (c .before .loop .inv)
 
 returns : tie.Need-returns Inv-loop μ-loop
-returns c =
-    let a = c .before .before .args in
-    let p = c .before in
-    let len : length (p .loop .s) ≡ length (a .s .now) = ap length (p .loop .inv .1) ∙ zeros-length (a .s .now) (p .loop .i) (p .loop .inv .0) in
-    let e : p .loop .i ≡ length (a .s .now) = omega (arith, len) in
-    let done : length (a .s .now) ≤ p .loop .i = omega (arith, len) in
-    p .loop .inv .1 ∙ ap (λ (x : List ℕ). replicate (p .loop .i) 0 ++ x) (drop-of-length-le (a .s .now) done) ∙ append-nil (replicate (p .loop .i) 0) ∙ ap (λ (j : ℕ). replicate j 0) e
+returns c = cleared-all (c .before .loop .inv) (omega arith)
 
 pub clear-spec : {M : Type 1} → statement M
-clear-spec =
-    tie.close
-    (tie.spec
-    Inv-loop
-    μ-loop
-    loop-holds
-    mul-s
-    slice-write-s
-    add-i
-    loop-less
-    loop-again
-    same-length
-    returns)
+clear-spec = tie.close (tie.spec Inv-loop μ-loop loop-holds put16-requires loop-less loop-again same-length returns)

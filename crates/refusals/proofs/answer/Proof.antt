@@ -1,6 +1,5 @@
--- `refusals::answer` meets its contract: the arrays are zero and as long as `read` asks.
+-- `refusals::answer` meets its contract: the arrays are as long as `read` asks.
 use borrow.Author.Needs.{needs}
-use mathlib.Core.Path.{refl}
 use Prim.Native.Nat.{ℕ, _≤_}
 use native.Mathlib.Omega.{arith}
 use lib.ListN.{length, replicate, length-replicate}
@@ -10,12 +9,6 @@ use Rattle.refusals.proofs.answer.Tie as tie
 -- as many zeros as there are
 at-least : (n m : ℕ) → m ≤ n → m ≤ length {A = ℕ} (replicate n 0)
 at-least n m h = omega (arith, length-replicate {A = ℕ} n 0)
-
-say-refused-requires : tie.Need-say-refused-requires
-say-refused-requires c κs = search needs
-
-returns : tie.Need-returns
-returns c = search needs
 
 slice-aggregate-read : tie.Need-slice-aggregate-read
 slice-aggregate-read c = search needs
@@ -55,32 +48,29 @@ slice-aggregate-read-12 c = search needs
 
 read-requires : tie.Need-read-requires
 read-requires c κs = (
-  omega arith,
+  at-least 24576 24576 (omega arith),
   (
-    at-least 24576 24576 (omega arith),
-    (
-      record {
-        kindsLong = length-replicate {A = ℕ} 64 0;
-        countsLong = length-replicate {A = ℕ} 64 0;
-        aritiesLong = length-replicate {A = ℕ} 2048 0;
-        startsLong = length-replicate {A = ℕ} 2048 0;
-        namesLong = length-replicate {A = ℕ} 2048 0;
-        fieldsLong = length-replicate {A = ℕ} 5120 0;
-        labelsLong = length-replicate {A = ℕ} 5120 0;
-        nodesLong = length-replicate {A = ℕ} 4160 0;
-        leftLong = length-replicate {A = ℕ} 4160 0;
-        rowsLong = length-replicate {A = ℕ} 64 0;
-      },
-      (refl, at-least 1920 1920 (omega arith)),
-    ),
+    record {
+      kindsLong = length-replicate {A = ℕ} 64 0;
+      countsLong = length-replicate {A = ℕ} 64 0;
+      aritiesLong = length-replicate {A = ℕ} 2048 0;
+      startsLong = length-replicate {A = ℕ} 2048 0;
+      namesLong = length-replicate {A = ℕ} 2048 0;
+      fieldsLong = length-replicate {A = ℕ} 5120 0;
+      labelsLong = length-replicate {A = ℕ} 5120 0;
+      nodesLong = length-replicate {A = ℕ} 4160 0;
+      leftLong = length-replicate {A = ℕ} 4160 0;
+      rowsLong = length-replicate {A = ℕ} 64 0;
+    },
+    at-least 1920 1920 (omega arith),
   ),
 )
 
 enum-known-p : tie.Need-enum-known-p
 enum-known-p c = search needs
 
-say-refused-requires-2 : tie.Need-say-refused-requires-2
-say-refused-requires-2 c κs = search needs
+say-refused-requires : tie.Need-say-refused-requires
+say-refused-requires c κs = search needs
 
 enum-told : tie.Need-enum-told
 enum-told c = search needs
@@ -91,18 +81,16 @@ slice-aggregate-write-all c = search needs
 write-all-requires : tie.Need-write-all-requires
 write-all-requires c κs = search needs
 
+returns : tie.Need-returns
+returns c = search needs
+
 returns-2 : tie.Need-returns-2
 returns-2 c = search needs
-
-returns-3 : tie.Need-returns-3
-returns-3 c = search needs
 
 pub answer-spec : {M : Type 1} → statement M
 answer-spec =
     tie.close
     (tie.spec
-    say-refused-requires
-    returns
     slice-aggregate-read
     slice-aggregate-read-2
     slice-aggregate-read-3
@@ -117,9 +105,9 @@ answer-spec =
     slice-aggregate-read-12
     read-requires
     enum-known-p
-    say-refused-requires-2
+    say-refused-requires
     enum-told
     slice-aggregate-write-all
     write-all-requires
-    returns-2
-    returns-3)
+    returns
+    returns-2)

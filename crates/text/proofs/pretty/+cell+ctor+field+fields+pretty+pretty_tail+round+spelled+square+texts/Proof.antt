@@ -1,21 +1,21 @@
 -- `pretty` and `pretty_tail`, with the functions between them, meet their contracts. Each call is on fewer nodes, or a step of the same node: 2,048 for each node that is left.
-use mathlib.Core.Path.{refl, ap, ap₂, sym, _∙_}
-use Prim.Native.Nat.{_+_, _-_, _*_, _%_}
+use mathlib.Core.Path.{refl, ap, sym, _∙_}
+use Prim.Native.Nat.{_+_, _-_, _*_}
 use native.Mathlib.Omega.{arith}
 use borrow.Author.Needs.{needs}
 use lib.ListN.{length}
 use denote.Enum.Declared.{tagOf, declared}
 use Rattle.scope.specs.Text.{alone, inTail}
-use Rattle.text.proofs.name.Look as Look
-use Rattle.text.specs.Naming.{nameIn}
-use Rattle.text.specs.Printing.{modeOf}
-use Rattle.text.proofs.Writing.{wrote-as}
+use Rattle.naming.proofs.name.Look as Look
+use Rattle.naming.specs.Naming.{modeOf}
+use Rattle.naming.proofs.Nodes.{label-wild}
+use Rattle.writing.proofs.Writing.{wrote-as}
 use Rattle.text.proofs.Rows.{inside}
 use Rattle.text.proofs.Moves.{fields-moved}
 use Rattle.text.proofs.Looks.{not-one}
 use Rattle.text.proofs.Printing.{around, texts-none, texts-one, texts-more, fields-none, fields-one, fields-more}
 use Rattle.text.proofs.Patterns.{on-wild, tail-wild, spelled-none, spelled-round, spelled-fields, ctor-round, ctor-square, ctor-spelled, wild-printed, lit-printed, pretty-con, tail-cell, tail-ctor, field-more}
-use Rattle.text.proofs.Cells.{square-nil, square-more, next-nil, next-more}
+use Rattle.text.proofs.Cells.{cell-nil, cell-more}
 use Prim.Native.Nat.{ℕ, _<_}
 use borrow.Fn.Kinds.{In}
 use borrow.Fn.PlainCycle.{Measures, is, falls, and}
@@ -53,13 +53,12 @@ use Rattle.cells.proofs.at16.Reads as at16-reads
 use Rattle.cells.proofs.at8.Reads as at8-reads
 use Rattle.cells.proofs.wide16.Reads as wide16-reads
 use Rattle.cells.proofs.wide8.Reads as wide8-reads
-use Rattle.text.proofs.name.label_at.Reads as label-at-reads
-use Rattle.text.proofs.name.name_of.Reads as name-of-reads
-use Rattle.text.proofs.pretty.closes.Reads as closes-reads
-use Rattle.text.proofs.pretty.is_nil.Reads as is-nil-reads
-use Rattle.text.proofs.pretty.look.Reads as look-reads
-use Rattle.text.proofs.put.all.Reads as all-reads
-use Rattle.text.proofs.put.byte.Reads as byte-reads
+use Rattle.naming.proofs.node.put_label.Reads as put-label-reads
+use Rattle.naming.proofs.node.put_name.Reads as put-name-reads
+use Rattle.naming.proofs.node.closes.Reads as closes-reads
+use Rattle.naming.proofs.node.look.Reads as look-reads
+use Rattle.writing.proofs.all.Reads as all-reads
+use Rattle.writing.proofs.byte.Reads as byte-reads
 use Rattle.text.proofs.pretty.+cell+ctor+field+fields+pretty+pretty_tail+round+spelled+square+texts.{
   statement,
 }
@@ -68,7 +67,7 @@ use Rattle.text.proofs.pretty.+cell+ctor+field+fields+pretty+pretty_tai
 }
 
 abbrev μ-cell : Measures 8 cell-kinds.ps ℕ
-μ-cell κs a = 2048 * (length (a .1 .1 .1 .1 .1 .1 .1 .0 .now) - a .1 .1 .1 .1 .1 .1 .1 .1 .0) + 1500
+μ-cell κs a = 2048 * (length (a .1 .1 .1 .1 .1 .1 .1 .1 .0 .now) - a .1 .1 .1 .1 .1 .1 .1 .1 .1 .0) + 1500
 
 abbrev μ-ctor : Measures 8 ctor-kinds.ps ℕ
 μ-ctor κs a = 2048 * (length (a .1 .1 .1 .1 .1 .1 .1 .0 .now) - a .1 .1 .1 .1 .1 .1 .1 .1 .0) + 2000
@@ -92,7 +91,7 @@ abbrev μ-spelled : Measures 8 spelled-kinds.ps ℕ
 μ-spelled κs a = 2048 * (length (a .1 .1 .1 .1 .1 .1 .1 .0 .now) - a .1 .1 .1 .1 .1 .1 .1 .1 .0) + 1900
 
 abbrev μ-square : Measures 8 square-kinds.ps ℕ
-μ-square κs a = 2048 * (length (a .1 .1 .1 .1 .1 .1 .1 .0 .now) - a .1 .1 .1 .1 .1 .1 .1 .1 .0) + 1500
+μ-square κs a = 2048 * (length (a .1 .1 .1 .1 .1 .1 .1 .0 .now) - a .1 .1 .1 .1 .1 .1 .1 .1 .0) + 1600
 
 abbrev μ-texts : Measures 8 texts-kinds.ps ℕ
 μ-texts κs a = 2048 * (length (a .1 .1 .1 .1 .1 .1 .1 .0 .now) - a .1 .1 .1 .1 .1 .1 .1 .1 .0) + (a .1 .1 .1 .1 .1 .1 .1 .1 .1 .0 + 8)
@@ -166,7 +165,7 @@ abbrev ctor-claims : ℕ → ctor-lts.Claims
 ctor-claims t = (look-reads.Asked, look-reads.Learnt, at8-reads.Asked, at8-reads.Learnt, wide8-reads.Asked, wide8-reads.Learnt, round-below t, round.Post, square-below t, square.Post, spelled-below t, spelled.Post)
 
 abbrev field-claims : ℕ → field-lts.Claims
-field-claims t = (label-at-reads.Asked, label-at-reads.Learnt, all-reads.Asked, all-reads.Learnt, at16-reads.Asked, at16-reads.Learnt, pretty-below t, pretty.Post)
+field-claims t = (put-label-reads.Asked, put-label-reads.Learnt, at16-reads.Asked, at16-reads.Learnt, pretty-below t, pretty.Post)
 
 abbrev fields-claims : ℕ → fields-lts.Claims
 fields-claims t = (at16-reads.Asked, at16-reads.Learnt, wide16-reads.Asked, wide16-reads.Learnt, field-below t, field.Post, all-reads.Asked, all-reads.Learnt, fields-below t, fields.Post)
@@ -181,10 +180,10 @@ abbrev round-claims : ℕ → round-lts.Claims
 round-claims t = (byte-reads.Asked, byte-reads.Learnt, texts-below t, texts.Post)
 
 abbrev spelled-claims : ℕ → spelled-lts.Claims
-spelled-claims t = (at8-reads.Asked, at8-reads.Learnt, at16-reads.Asked, at16-reads.Learnt, wide16-reads.Asked, wide16-reads.Learnt, name-of-reads.Asked, name-of-reads.Learnt, all-reads.Asked, all-reads.Learnt, wide8-reads.Asked, wide8-reads.Learnt, round-below t, round.Post, fields-below t, fields.Post)
+spelled-claims t = (put-name-reads.Asked, put-name-reads.Learnt, at8-reads.Asked, at8-reads.Learnt, wide8-reads.Asked, wide8-reads.Learnt, at16-reads.Asked, at16-reads.Learnt, wide16-reads.Asked, wide16-reads.Learnt, round-below t, round.Post, all-reads.Asked, all-reads.Learnt, fields-below t, fields.Post)
 
 abbrev square-claims : ℕ → square-lts.Claims
-square-claims t = (byte-reads.Asked, byte-reads.Learnt, pretty-below t, pretty.Post, is-nil-reads.Asked, is-nil-reads.Learnt, all-reads.Asked, all-reads.Learnt, pretty-tail-below t, pretty-tail.Post)
+square-claims t = (byte-reads.Asked, byte-reads.Learnt, cell-below t, cell.Post)
 
 abbrev texts-claims : ℕ → texts-lts.Claims
 texts-claims t = (pretty-below t, pretty.Post, all-reads.Asked, all-reads.Learnt, texts-below t, texts.Post)
@@ -208,7 +207,7 @@ cell-same-length t c =
 cell-returns : (t : ℕ) → cell-lts.Need-returns (cell-claims t) (cell-at t) cell.Post
 cell-returns t c =
     let a = c .before .before .before .before .before .before .before .before .before .before .before .before .before .before .before .args in
-    (omega (arith, c .before .before .before .before .before .before .before .before .before .before .before .before .before .before .before .pre, c .before .before .before .before .before .pretty .ensures .0), next-nil (c .before .before .before .before .before .pretty .result .p) (a .paste) (sym (c .before .if1 .taken) ∙ c .before .before .closes .ensures) (c .before .before .before .before .before .pretty .ensures .1))
+    (omega (arith, c .before .before .before .before .before .before .before .before .before .before .before .before .before .before .before .pre, c .before .before .before .before .before .pretty .ensures .0), cell-nil (c .before .before .before .before .before .pretty .result .p) (a .first) (a .paste) (sym (c .before .if1 .taken) ∙ c .before .before .closes .ensures) (c .before .before .before .before .before .pretty .ensures .1))
 
 cell-slice-aggregate-all : (t : ℕ) → cell-lts.Need-slice-aggregate-all (cell-claims t) (cell-at t) cell.Post
 cell-slice-aggregate-all t c =
@@ -229,7 +228,7 @@ cell-same-length-2 t c =
 cell-returns-2 : (t : ℕ) → cell-lts.Need-returns-2 (cell-claims t) (cell-at t) cell.Post
 cell-returns-2 t c =
     let a = c .before .before .before .before .before .before .before .before .before .before .before .before .before .before .before .before .before .before .before .before .before .before .before .args in
-    (omega (arith, c .before .before .before .before .before .before .before .before .before .before .before .before .before .before .before .before .before .before .before .before .before .before .before .pre, c .before .before .before .before .before .before .before .before .before .before .before .before .before .pretty .ensures .0, c .before .before .before .before .before .before .all .ensures .ends, c .before .before .pretty-tail .ensures .0), next-more (c .before .before .before .before .before .before .before .before .before .before .before .before .before .pretty .result .p) (a .paste) (sym (c .before .before .before .before .before .before .before .before .before .if1 .left) ∙ c .before .before .before .before .before .before .before .before .before .before .closes .ensures) (c .before .before .before .before .before .before .before .before .before .before .before .before .before .pretty .ensures .1) (c .before .before .before .before .before .before .all .ensures) (c .before .before .pretty-tail .ensures .1))
+    (omega (arith, c .before .before .before .before .before .before .before .before .before .before .before .before .before .before .before .before .before .before .before .before .before .before .before .pre, c .before .before .before .before .before .before .before .before .before .before .before .before .before .pretty .ensures .0, c .before .before .before .before .before .before .all .ensures .ends, c .before .before .pretty-tail .ensures .0), cell-more (c .before .before .before .before .before .before .before .before .before .before .before .before .before .pretty .result .p) (a .first) (a .paste) (sym (c .before .before .before .before .before .before .before .before .before .if1 .left) ∙ c .before .before .before .before .before .before .before .before .before .before .closes .ensures) (c .before .before .before .before .before .before .before .before .before .before .before .before .before .pretty .ensures .1) (c .before .before .before .before .before .before .all .ensures) (c .before .before .pretty-tail .ensures .1))
 
 ctor-look-requires : (t : ℕ) → ctor-lts.Need-look-requires (ctor-claims t) (ctor-at t) ctor.Post
 ctor-look-requires t c κs =
@@ -294,13 +293,9 @@ ctor-returns-3 t c =
     let a = c .before .before .before .before .before .before .before .before .before .before .before .before .before .before .before .args in
     (omega (arith, c .before .before .before .before .before .before .before .before .before .before .before .before .before .before .before .pre, c .before .before .spelled .ensures .0), ctor-spelled (modeOf (a .paste)) (a .i) (c .before .before .before .before .before .before .look .result) (c .before .before .before .before .before .before .look .ensures) (c .before .before .before .before .enum-told3 .given .1) (c .before .before .spelled .ensures .1))
 
-field-label-at-requires : (t : ℕ) → field-lts.Need-label-at-requires (field-claims t) (field-at t) field.Post
-field-label-at-requires t c κs =
-    tt
-
-field-all-requires : (t : ℕ) → field-lts.Need-all-requires (field-claims t) (field-at t) field.Post
-field-all-requires t c κs =
-    omega (arith, c .before .before .before .before .before .before .before .before .before .before .pre)
+field-put-label-requires : (t : ℕ) → field-lts.Need-put-label-requires (field-claims t) (field-at t) field.Post
+field-put-label-requires t c κs =
+    omega (arith, c .before .before .before .before .before .before .before .before .before .pre)
 
 field-at16-requires : (t : ℕ) → field-lts.Need-at16-requires (field-claims t) (field-at t) field.Post
 field-at16-requires t c κs =
@@ -308,37 +303,29 @@ field-at16-requires t c κs =
 
 field-add-q : (t : ℕ) → field-lts.Need-add-q (field-claims t) (field-at t) field.Post
 field-add-q t c =
-    omega (arith, c .before .before .before .before .before .before .before .before .before .before .before .before .before .before .before .pre, c .before .before .before .before .all .ensures .ends)
+    omega (arith, c .before .before .before .before .before .before .before .before .before .before .before .before .before .before .pre)
 
 field-same-length : (t : ℕ) → field-lts.Need-same-length (field-claims t) (field-at t) field.Post
 field-same-length t c =
-    c .before .before .before .before .all .kept .0
+    c .before .before .before .before .put-label .kept .1 .1 .1 .1 .0
 
 field-returns : (t : ℕ) → field-lts.Need-returns (field-claims t) (field-at t) field.Post
 field-returns t c =
-    let a = c .before .before .before .before .before .before .before .before .before .before .before .before .before .before .before .args in
-    (omega (arith, c .before .before .before .before .before .before .before .before .before .before .before .before .before .before .before .pre, c .before .before .before .before .before .label-at .ensures .1, c .before .before .before .before .all .ensures .ends), wild-printed (a .p) (c .before .at16 .result) (c .before .at16 .ensures) (c .if1 .taken) (λ table r. refl) (wrote-as (c .before .before .before .before .before .label-at .ensures .0) (c .before .before .before .before .all .ensures)))
-
-field-slice-aggregate-all : (t : ℕ) → field-lts.Need-slice-aggregate-all (field-claims t) (field-at t) field.Post
-field-slice-aggregate-all t c =
-    refl
-
-field-all-requires-2 : (t : ℕ) → field-lts.Need-all-requires-2 (field-claims t) (field-at t) field.Post
-field-all-requires-2 t c κs =
-    omega (arith, c .before .before .before .before .before .before .before .before .before .before .before .before .before .before .before .before .before .before .before .pre, c .before .before .before .before .before .before .before .before .before .label-at .ensures .1, c .before .before .before .before .before .before .before .before .all .ensures .ends)
+    let a = c .before .before .before .before .before .before .before .before .before .before .before .before .before .before .args in
+    (omega (arith, c .before .before .before .before .before .before .before .before .before .before .before .before .before .before .pre, c .before .before .before .before .put-label .ensures .1), wild-printed (a .p) (c .before .at16 .result) (c .before .at16 .ensures) (c .if1 .taken) (λ table r. refl) (wrote-as (sym (label-wild _ _ (sym (c .before .at16 .ensures) ∙ c .if1 .taken))) (c .before .before .before .before .put-label .ensures .0)))
 
 field-pretty-requires : (t : ℕ) → field-lts.Need-pretty-requires (field-claims t) (field-at t) field.Post
 field-pretty-requires t c κs =
-    omega (arith, c .before .before .before .before .before .before .before .before .before .before .before .before .before .before .before .before .before .before .before .before .before .before .before .pre, c .before .before .before .before .before .before .before .before .before .before .before .before .before .label-at .ensures .1, c .before .before .before .before .before .before .before .before .before .before .before .before .all .ensures .ends, c .before .before .before .all2 .ensures .ends)
+    omega (arith, c .before .before .before .before .before .before .before .before .before .before .before .before .before .before .before .pre, c .before .before .before .before .before .put-label .ensures .1)
 
 field-same-length-2 : (t : ℕ) → field-lts.Need-same-length-2 (field-claims t) (field-at t) field.Post
 field-same-length-2 t c =
-    c .before .before .pretty .kept .1 .1 .1 .1 .1 .1 .1 .1 .1 .0 ∙ c .before .before .before .before .before .before .all2 .kept .0 ∙ c .before .before .before .before .before .before .before .before .before .before .before .before .before .before .before .all .kept .0
+    c .before .before .pretty .kept .1 .1 .1 .1 .1 .1 .1 .1 .1 .0 ∙ c .before .before .before .before .before .before .before .before .put-label .kept .1 .1 .1 .1 .0
 
 field-returns-2 : (t : ℕ) → field-lts.Need-returns-2 (field-claims t) (field-at t) field.Post
 field-returns-2 t c =
-    let a = c .before .before .before .before .before .before .before .before .before .before .before .before .before .before .before .before .before .before .before .before .before .before .before .before .before .before .args in
-    (omega (arith, c .before .before .before .before .before .before .before .before .before .before .before .before .before .before .before .before .before .before .before .before .before .before .before .before .before .before .pre, c .before .before .before .before .before .before .before .before .before .before .before .before .before .before .before .before .label-at .ensures .1, c .before .before .before .before .before .before .before .before .before .before .before .before .before .before .before .all .ensures .ends, c .before .before .before .before .before .before .all2 .ensures .ends, c .before .before .pretty .ensures .0), field-more (a .p) (c .before .before .before .before .before .before .before .before .before .before .before .before .at16 .result) (c .before .before .before .before .before .before .before .before .before .before .before .before .at16 .ensures) (modeOf (a .paste)) (a .label) (c .before .before .before .before .before .before .before .before .before .before .before .if1 .left) (wrote-as (c .before .before .before .before .before .before .before .before .before .before .before .before .before .before .before .before .label-at .ensures .0) (c .before .before .before .before .before .before .before .before .before .before .before .before .before .before .before .all .ensures)) (c .before .before .before .before .before .before .all2 .ensures) (c .before .before .pretty .ensures .1))
+    let a = c .before .before .before .before .before .before .before .before .before .before .before .before .before .before .before .before .before .before .args in
+    (omega (arith, c .before .before .before .before .before .before .before .before .before .before .before .before .before .before .before .before .before .before .pre, c .before .before .before .before .before .before .before .before .put-label .ensures .1, c .before .before .pretty .ensures .0), field-more (a .p) (c .before .before .before .before .before .at16 .result) (c .before .before .before .before .before .at16 .ensures) (modeOf (a .paste)) (a .label) (c .before .before .before .before .if1 .left) (c .before .before .before .before .before .before .before .before .put-label .ensures .0) (c .before .before .pretty .ensures .1))
 
 fields-returns : (t : ℕ) → fields-lts.Need-returns (fields-claims t) (fields-at t) fields.Post
 fields-returns t c =
@@ -494,7 +481,7 @@ pretty-tail-cell-requires t c κs =
 
 pretty-tail-same-length-2 : (t : ℕ) → pretty-tail-lts.Need-same-length-2 (pretty-tail-claims t) (pretty-tail-at t) pretty-tail.Post
 pretty-tail-same-length-2 t c =
-    c .before .before .cell .kept .1 .1 .1 .1 .1 .1 .1 .1 .1 .0
+    c .before .before .cell .kept .1 .1 .1 .1 .1 .1 .1 .1 .1 .1 .0
 
 pretty-tail-returns-3 : (t : ℕ) → pretty-tail-lts.Need-returns-3 (pretty-tail-claims t) (pretty-tail-at t) pretty-tail.Post
 pretty-tail-returns-3 t c =
@@ -535,13 +522,26 @@ round-returns t c =
     let a = c .before .before .before .before .before .before .before .before .before .before .before .before .before .before .before .before .before .before .before .before .args in
     (omega (arith, c .before .before .before .before .before .before .before .before .before .before .before .before .before .before .before .before .before .before .before .before .pre, c .before .before .before .before .before .before .before .before .before .before .byte .ensures .ends, c .before .before .before .before .before .before .texts .ensures .0, c .before .before .byte2 .ensures .ends), around (c .before .before .before .before .before .before .before .before .before .before .byte .ensures) (c .before .before .before .before .before .before .texts .ensures .1) (c .before .before .byte2 .ensures))
 
+spelled-put-name-requires : (t : ℕ) → spelled-lts.Need-put-name-requires (spelled-claims t) (spelled-at t) spelled.Post
+spelled-put-name-requires t c κs =
+    omega (arith, c .before .before .before .before .before .before .before .before .before .pre)
+
 spelled-at8-requires : (t : ℕ) → spelled-lts.Need-at8-requires (spelled-claims t) (spelled-at t) spelled.Post
 spelled-at8-requires t c κs =
     tt
 
-spelled-slice-aggregate-name-of : (t : ℕ) → spelled-lts.Need-slice-aggregate-name-of (spelled-claims t) (spelled-at t) spelled.Post
-spelled-slice-aggregate-name-of t c =
-    refl
+spelled-wide8-requires : (t : ℕ) → spelled-lts.Need-wide8-requires (spelled-claims t) (spelled-at t) spelled.Post
+spelled-wide8-requires t c κs =
+    tt
+
+spelled-same-length : (t : ℕ) → spelled-lts.Need-same-length (spelled-claims t) (spelled-at t) spelled.Post
+spelled-same-length t c =
+    c .before .before .before .before .before .put-name .kept .1 .1 .1 .1 .0
+
+spelled-returns : (t : ℕ) → spelled-lts.Need-returns (spelled-claims t) (spelled-at t) spelled.Post
+spelled-returns t c =
+    let a = c .before .before .before .before .before .before .before .before .before .before .before .before .before .before .before .args in
+    (omega (arith, c .before .before .before .before .before .before .before .before .before .before .before .before .before .before .before .pre, c .before .before .before .before .before .put-name .ensures .1), spelled-none (modeOf (a .paste)) (a .i) (c .before .wide8 .ensures ∙ c .before .before .at8 .ensures) (c .if1 .taken) (c .before .before .before .before .before .put-name .ensures .0))
 
 spelled-at16-requires : (t : ℕ) → spelled-lts.Need-at16-requires (spelled-claims t) (spelled-at t) spelled.Post
 spelled-at16-requires t c κs =
@@ -551,138 +551,71 @@ spelled-wide16-requires : (t : ℕ) → spelled-lts.Need-wide16-requires (spelle
 spelled-wide16-requires t c κs =
     tt
 
-spelled-name-of-requires : (t : ℕ) → spelled-lts.Need-name-of-requires (spelled-claims t) (spelled-at t) spelled.Post
-spelled-name-of-requires t c κs =
-    refl
-
-spelled-all-requires : (t : ℕ) → spelled-lts.Need-all-requires (spelled-claims t) (spelled-at t) spelled.Post
-spelled-all-requires t c κs =
-    omega (arith, c .before .before .before .before .before .before .before .before .before .before .before .before .before .before .pre)
-
-spelled-at8-requires-2 : (t : ℕ) → spelled-lts.Need-at8-requires-2 (spelled-claims t) (spelled-at t) spelled.Post
-spelled-at8-requires-2 t c κs =
-    tt
-
-spelled-wide8-requires : (t : ℕ) → spelled-lts.Need-wide8-requires (spelled-claims t) (spelled-at t) spelled.Post
-spelled-wide8-requires t c κs =
-    tt
-
-spelled-same-length : (t : ℕ) → spelled-lts.Need-same-length (spelled-claims t) (spelled-at t) spelled.Post
-spelled-same-length t c =
-    c .before .before .before .before .before .all .kept .0
-
-spelled-returns : (t : ℕ) → spelled-lts.Need-returns (spelled-claims t) (spelled-at t) spelled.Post
-spelled-returns t c =
-    let a = c .before .before .before .before .before .before .before .before .before .before .before .before .before .before .before .before .before .before .before .before .args in
-    (omega (arith, c .before .before .before .before .before .before .before .before .before .before .before .before .before .before .before .before .before .before .before .before .pre, c .before .before .before .before .before .before .before .name-of .ensures .1 .1, c .before .before .before .before .before .all .ensures .ends), spelled-none (modeOf (a .paste)) (a .i) (c .before .wide8 .ensures ∙ c .before .before .at82 .ensures) (c .if1 .taken) (wrote-as (c .before .before .before .before .before .before .before .name-of .ensures .0 ∙ ap₂ (λ (k place : ℕ). nameIn (a .bytes .now) k (a .i % 32) place) (c .before .before .before .before .before .before .before .before .before .before .before .at8 .ensures) (c .before .before .before .before .before .before .before .before .wide16 .ensures ∙ c .before .before .before .before .before .before .before .before .before .at16 .ensures)) (c .before .before .before .before .before .all .ensures)))
-
 spelled-at16-requires-2 : (t : ℕ) → spelled-lts.Need-at16-requires-2 (spelled-claims t) (spelled-at t) spelled.Post
 spelled-at16-requires-2 t c κs =
     tt
 
-spelled-wide16-requires-2 : (t : ℕ) → spelled-lts.Need-wide16-requires-2 (spelled-claims t) (spelled-at t) spelled.Post
-spelled-wide16-requires-2 t c κs =
-    tt
-
-spelled-at16-requires-3 : (t : ℕ) → spelled-lts.Need-at16-requires-3 (spelled-claims t) (spelled-at t) spelled.Post
-spelled-at16-requires-3 t c κs =
-    tt
-
 spelled-round-requires : (t : ℕ) → spelled-lts.Need-round-requires (spelled-claims t) (spelled-at t) spelled.Post
 spelled-round-requires t c κs =
-    omega (arith, c .before .before .before .before .before .before .before .before .before .before .before .before .before .before .before .before .before .before .before .before .before .before .before .before .before .pre, c .before .before .before .before .before .before .before .before .before .before .before .before .name-of .ensures .1 .1, c .before .before .before .before .before .before .before .before .before .before .all .ensures .ends, c .before .before .before .before .before .before .wide8 .ensures, c .before .before .before .before .before .before .before .at82 .ok)
+    omega (arith, c .before .before .before .before .before .before .before .before .before .before .before .before .before .before .before .before .before .before .before .before .pre, c .before .before .before .before .before .before .before .before .before .before .put-name .ensures .1, c .before .before .before .before .before .before .wide8 .ensures, c .before .before .before .before .before .before .before .at8 .ok)
 
 spelled-same-length-2 : (t : ℕ) → spelled-lts.Need-same-length-2 (spelled-claims t) (spelled-at t) spelled.Post
 spelled-same-length-2 t c =
-    c .before .before .round .kept .1 .1 .1 .1 .1 .1 .1 .1 .1 .1 .0 ∙ c .before .before .before .before .before .before .before .before .before .before .before .before .before .all .kept .0
+    c .before .before .round .kept .1 .1 .1 .1 .1 .1 .1 .1 .1 .1 .0 ∙ c .before .before .before .before .before .before .before .before .before .before .before .before .before .put-name .kept .1 .1 .1 .1 .0
 
 spelled-returns-2 : (t : ℕ) → spelled-lts.Need-returns-2 (spelled-claims t) (spelled-at t) spelled.Post
 spelled-returns-2 t c =
-    let a = c .before .before .before .before .before .before .before .before .before .before .before .before .before .before .before .before .before .before .before .before .before .before .before .before .before .before .before .before .args in
-    (omega (arith, c .before .before .before .before .before .before .before .before .before .before .before .before .before .before .before .before .before .before .before .before .before .before .before .before .before .before .before .before .pre, c .before .before .before .before .before .before .before .before .before .before .before .before .before .before .before .name-of .ensures .1 .1, c .before .before .before .before .before .before .before .before .before .before .before .before .before .all .ensures .ends, c .before .before .round .ensures .0), spelled-round (modeOf (a .paste)) (a .i) (c .before .before .before .before .before .before .before .before .before .wide8 .ensures ∙ c .before .before .before .before .before .before .before .before .before .before .at82 .ensures) (c .before .before .before .before .before .before .before .before .if1 .left) (c .before .before .before .before .before .before .wide162 .ensures ∙ c .before .before .before .before .before .before .before .at162 .ensures) (sym (c .before .before .before .before .before .at163 .ensures) ∙ c .before .before .before .before .if2 .taken) (wrote-as (c .before .before .before .before .before .before .before .before .before .before .before .before .before .before .before .name-of .ensures .0 ∙ ap₂ (λ (k place : ℕ). nameIn (a .bytes .now) k (a .i % 32) place) (c .before .before .before .before .before .before .before .before .before .before .before .before .before .before .before .before .before .before .before .at8 .ensures) (c .before .before .before .before .before .before .before .before .before .before .before .before .before .before .before .before .wide16 .ensures ∙ c .before .before .before .before .before .before .before .before .before .before .before .before .before .before .before .before .before .at16 .ensures)) (c .before .before .before .before .before .before .before .before .before .before .before .before .before .all .ensures)) (c .before .before .round .ensures .1))
+    let a = c .before .before .before .before .before .before .before .before .before .before .before .before .before .before .before .before .before .before .before .before .before .before .before .args in
+    (omega (arith, c .before .before .before .before .before .before .before .before .before .before .before .before .before .before .before .before .before .before .before .before .before .before .before .pre, c .before .before .before .before .before .before .before .before .before .before .before .before .before .put-name .ensures .1, c .before .before .round .ensures .0), spelled-round (modeOf (a .paste)) (a .i) (c .before .before .before .before .before .before .before .before .before .wide8 .ensures ∙ c .before .before .before .before .before .before .before .before .before .before .at8 .ensures) (c .before .before .before .before .before .before .before .before .if1 .left) (c .before .before .before .before .before .before .wide16 .ensures ∙ c .before .before .before .before .before .before .before .at16 .ensures) (sym (c .before .before .before .before .before .at162 .ensures) ∙ c .before .before .before .before .if2 .taken) (c .before .before .before .before .before .before .before .before .before .before .before .before .before .put-name .ensures .0) (c .before .before .round .ensures .1))
 
 spelled-slice-aggregate-all : (t : ℕ) → spelled-lts.Need-slice-aggregate-all (spelled-claims t) (spelled-at t) spelled.Post
 spelled-slice-aggregate-all t c =
     refl
 
-spelled-all-requires-2 : (t : ℕ) → spelled-lts.Need-all-requires-2 (spelled-claims t) (spelled-at t) spelled.Post
-spelled-all-requires-2 t c κs =
-    omega (arith, c .before .before .before .before .before .before .before .before .before .before .before .before .before .before .before .before .before .before .before .before .before .before .before .before .before .before .before .before .pre, c .before .before .before .before .before .before .before .before .before .before .before .before .before .before .before .name-of .ensures .1 .1, c .before .before .before .before .before .before .before .before .before .before .before .before .before .all .ensures .ends)
+spelled-all-requires : (t : ℕ) → spelled-lts.Need-all-requires (spelled-claims t) (spelled-at t) spelled.Post
+spelled-all-requires t c κs =
+    omega (arith, c .before .before .before .before .before .before .before .before .before .before .before .before .before .before .before .before .before .before .before .before .before .before .before .pre, c .before .before .before .before .before .before .before .before .before .before .before .before .before .put-name .ensures .1)
 
 spelled-fields-requires : (t : ℕ) → spelled-lts.Need-fields-requires (spelled-claims t) (spelled-at t) spelled.Post
 spelled-fields-requires t c κs =
-    omega (arith, c .before .before .before .before .before .before .before .before .before .before .before .before .before .before .before .before .before .before .before .before .before .before .before .before .before .before .before .before .before .before .before .before .pre, c .before .before .before .before .before .before .before .before .before .before .before .before .before .before .before .before .before .before .before .name-of .ensures .1 .1, c .before .before .before .before .before .before .before .before .before .before .before .before .before .before .before .before .before .all .ensures .ends, c .before .before .before .all2 .ensures .ends, c .before .before .before .before .before .before .before .before .before .before .before .before .before .wide8 .ensures, c .before .before .before .before .before .before .before .before .before .before .before .before .before .before .at82 .ok, c .before .before .before .before .before .before .before .before .before .before .wide162 .ensures, c .before .before .before .before .before .before .before .before .before .before .before .at162 .ok)
+    omega (arith, c .before .before .before .before .before .before .before .before .before .before .before .before .before .before .before .before .before .before .before .before .before .before .before .before .before .before .before .pre, c .before .before .before .before .before .before .before .before .before .before .before .before .before .before .before .before .before .put-name .ensures .1, c .before .before .before .all .ensures .ends, c .before .before .before .before .before .before .before .before .before .before .before .before .before .wide8 .ensures, c .before .before .before .before .before .before .before .before .before .before .before .before .before .before .at8 .ok, c .before .before .before .before .before .before .before .before .before .before .wide16 .ensures, c .before .before .before .before .before .before .before .before .before .before .before .at16 .ok)
 
 spelled-slice-aggregate-all-2 : (t : ℕ) → spelled-lts.Need-slice-aggregate-all-2 (spelled-claims t) (spelled-at t) spelled.Post
 spelled-slice-aggregate-all-2 t c =
     refl
 
-spelled-all-requires-3 : (t : ℕ) → spelled-lts.Need-all-requires-3 (spelled-claims t) (spelled-at t) spelled.Post
-spelled-all-requires-3 t c κs =
-    omega (arith, c .before .before .before .before .before .before .before .before .before .before .before .before .before .before .before .before .before .before .before .before .before .before .before .before .before .before .before .before .before .before .before .before .before .before .before .before .before .before .before .pre, c .before .before .before .before .before .before .before .before .before .before .before .before .before .before .before .before .before .before .before .before .before .before .before .before .before .before .name-of .ensures .1 .1, c .before .before .before .before .before .before .before .before .before .before .before .before .before .before .before .before .before .before .before .before .before .before .before .before .all .ensures .ends, c .before .before .before .before .before .before .before .before .before .before .all2 .ensures .ends, c .before .before .before .before .before .before .before .before .before .before .before .before .before .before .before .before .before .before .before .before .wide8 .ensures, c .before .before .before .before .before .before .before .before .before .before .before .before .before .before .before .before .before .before .before .before .before .at82 .ok, c .before .before .before .before .before .before .fields .ensures .0)
+spelled-all-requires-2 : (t : ℕ) → spelled-lts.Need-all-requires-2 (spelled-claims t) (spelled-at t) spelled.Post
+spelled-all-requires-2 t c κs =
+    omega (arith, c .before .before .before .before .before .before .before .before .before .before .before .before .before .before .before .before .before .before .before .before .before .before .before .before .before .before .before .before .before .before .before .before .before .before .pre, c .before .before .before .before .before .before .before .before .before .before .before .before .before .before .before .before .before .before .before .before .before .before .before .before .put-name .ensures .1, c .before .before .before .before .before .before .before .before .before .before .all .ensures .ends, c .before .before .before .before .before .before .before .before .before .before .before .before .before .before .before .before .before .before .before .before .wide8 .ensures, c .before .before .before .before .before .before .before .before .before .before .before .before .before .before .before .before .before .before .before .before .before .at8 .ok, c .before .before .before .before .before .before .fields .ensures .0)
 
 spelled-same-length-3 : (t : ℕ) → spelled-lts.Need-same-length-3 (spelled-claims t) (spelled-at t) spelled.Post
 spelled-same-length-3 t c =
-    c .before .before .all3 .kept .0 ∙ c .before .before .before .before .before .before .before .before .before .fields .kept .1 .1 .1 .1 .1 .1 .1 .1 .1 .1 .1 .0 ∙ c .before .before .before .before .before .before .before .before .before .before .before .before .before .all2 .kept .0 ∙ c .before .before .before .before .before .before .before .before .before .before .before .before .before .before .before .before .before .before .before .before .before .before .before .before .before .before .before .all .kept .0
+    c .before .before .all2 .kept .0 ∙ c .before .before .before .before .before .before .before .before .before .fields .kept .1 .1 .1 .1 .1 .1 .1 .1 .1 .1 .1 .0 ∙ c .before .before .before .before .before .before .before .before .before .before .before .before .before .all .kept .0 ∙ c .before .before .before .before .before .before .before .before .before .before .before .before .before .before .before .before .before .before .before .before .before .before .before .before .before .before .before .put-name .kept .1 .1 .1 .1 .0
 
 spelled-returns-3 : (t : ℕ) → spelled-lts.Need-returns-3 (spelled-claims t) (spelled-at t) spelled.Post
 spelled-returns-3 t c =
-    let a = c .before .before .before .before .before .before .before .before .before .before .before .before .before .before .before .before .before .before .before .before .before .before .before .before .before .before .before .before .before .before .before .before .before .before .before .before .before .before .before .before .before .before .args in
-    (omega (arith, c .before .before .before .before .before .before .before .before .before .before .before .before .before .before .before .before .before .before .before .before .before .before .before .before .before .before .before .before .before .before .before .before .before .before .before .before .before .before .before .before .before .before .pre, c .before .before .before .before .before .before .before .before .before .before .before .before .before .before .before .before .before .before .before .before .before .before .before .before .before .before .before .before .before .name-of .ensures .1 .1, c .before .before .before .before .before .before .before .before .before .before .before .before .before .before .before .before .before .before .before .before .before .before .before .before .before .before .before .all .ensures .ends, c .before .before .before .before .before .before .before .before .before .before .before .before .before .all2 .ensures .ends, c .before .before .before .before .before .before .before .before .before .before .before .before .before .before .before .before .before .before .before .before .before .before .before .wide8 .ensures, c .before .before .before .before .before .before .before .before .before .before .before .before .before .before .before .before .before .before .before .before .before .before .before .before .at82 .ok, c .before .before .before .before .before .before .before .before .before .fields .ensures .0, c .before .before .all3 .ensures .ends), spelled-fields (modeOf (a .paste)) (a .i) (c .before .before .before .before .before .before .before .before .before .before .before .before .before .before .before .before .before .before .before .before .before .before .before .wide8 .ensures ∙ c .before .before .before .before .before .before .before .before .before .before .before .before .before .before .before .before .before .before .before .before .before .before .before .before .at82 .ensures) (c .before .before .before .before .before .before .before .before .before .before .before .before .before .before .before .before .before .before .before .before .before .before .if1 .left) (c .before .before .before .before .before .before .before .before .before .before .before .before .before .before .before .before .before .before .before .before .wide162 .ensures ∙ c .before .before .before .before .before .before .before .before .before .before .before .before .before .before .before .before .before .before .before .before .before .at162 .ensures) (λ e. c .before .before .before .before .before .before .before .before .before .before .before .before .before .before .before .before .before .before .if2 .left (c .before .before .before .before .before .before .before .before .before .before .before .before .before .before .before .before .before .before .before .at163 .ensures ∙ e)) (wrote-as (c .before .before .before .before .before .before .before .before .before .before .before .before .before .before .before .before .before .before .before .before .before .before .before .before .before .before .before .before .before .name-of .ensures .0 ∙ ap₂ (λ (k place : ℕ). nameIn (a .bytes .now) k (a .i % 32) place) (c .before .before .before .before .before .before .before .before .before .before .before .before .before .before .before .before .before .before .before .before .before .before .before .before .before .before .before .before .before .before .before .before .before .at8 .ensures) (c .before .before .before .before .before .before .before .before .before .before .before .before .before .before .before .before .before .before .before .before .before .before .before .before .before .before .before .before .before .before .wide16 .ensures ∙ c .before .before .before .before .before .before .before .before .before .before .before .before .before .before .before .before .before .before .before .before .before .before .before .before .before .before .before .before .before .before .before .at16 .ensures)) (c .before .before .before .before .before .before .before .before .before .before .before .before .before .before .before .before .before .before .before .before .before .before .before .before .before .before .before .all .ensures)) (c .before .before .before .before .before .before .before .before .before .before .before .before .before .all2 .ensures) (c .before .before .before .before .before .before .before .before .before .fields .ensures .1) (c .before .before .all3 .ensures))
+    let a = c .before .before .before .before .before .before .before .before .before .before .before .before .before .before .before .before .before .before .before .before .before .before .before .before .before .before .before .before .before .before .before .before .before .before .before .before .before .args in
+    (omega (arith, c .before .before .before .before .before .before .before .before .before .before .before .before .before .before .before .before .before .before .before .before .before .before .before .before .before .before .before .before .before .before .before .before .before .before .before .before .before .pre, c .before .before .before .before .before .before .before .before .before .before .before .before .before .before .before .before .before .before .before .before .before .before .before .before .before .before .before .put-name .ensures .1, c .before .before .before .before .before .before .before .before .before .before .before .before .before .all .ensures .ends, c .before .before .before .before .before .before .before .before .before .before .before .before .before .before .before .before .before .before .before .before .before .before .before .wide8 .ensures, c .before .before .before .before .before .before .before .before .before .before .before .before .before .before .before .before .before .before .before .before .before .before .before .before .at8 .ok, c .before .before .before .before .before .before .before .before .before .fields .ensures .0, c .before .before .all2 .ensures .ends), spelled-fields (modeOf (a .paste)) (a .i) (c .before .before .before .before .before .before .before .before .before .before .before .before .before .before .before .before .before .before .before .before .before .before .before .wide8 .ensures ∙ c .before .before .before .before .before .before .before .before .before .before .before .before .before .before .before .before .before .before .before .before .before .before .before .before .at8 .ensures) (c .before .before .before .before .before .before .before .before .before .before .before .before .before .before .before .before .before .before .before .before .before .before .if1 .left) (c .before .before .before .before .before .before .before .before .before .before .before .before .before .before .before .before .before .before .before .before .wide16 .ensures ∙ c .before .before .before .before .before .before .before .before .before .before .before .before .before .before .before .before .before .before .before .before .before .at16 .ensures) (λ e. c .before .before .before .before .before .before .before .before .before .before .before .before .before .before .before .before .before .before .if2 .left (c .before .before .before .before .before .before .before .before .before .before .before .before .before .before .before .before .before .before .before .at162 .ensures ∙ e)) (c .before .before .before .before .before .before .before .before .before .before .before .before .before .before .before .before .before .before .before .before .before .before .before .before .before .before .before .put-name .ensures .0) (c .before .before .before .before .before .before .before .before .before .before .before .before .before .all .ensures) (c .before .before .before .before .before .before .before .before .before .fields .ensures .1) (c .before .before .all2 .ensures))
 
 square-byte-requires : (t : ℕ) → square-lts.Need-byte-requires (square-claims t) (square-at t) square.Post
 square-byte-requires t c κs =
     omega (arith, c .before .before .before .before .before .before .before .before .before .pre)
 
-square-pretty-requires : (t : ℕ) → square-lts.Need-pretty-requires (square-claims t) (square-at t) square.Post
-square-pretty-requires t c κs =
+square-cell-requires : (t : ℕ) → square-lts.Need-cell-requires (square-claims t) (square-at t) square.Post
+square-cell-requires t c κs =
     omega (arith, c .before .before .before .before .before .before .before .before .before .before .before .before .before .pre, c .before .before .before .byte .ensures .ends)
-
-square-is-nil-requires : (t : ℕ) → square-lts.Need-is-nil-requires (square-claims t) (square-at t) square.Post
-square-is-nil-requires t c κs =
-    tt
 
 square-byte-requires-2 : (t : ℕ) → square-lts.Need-byte-requires-2 (square-claims t) (square-at t) square.Post
 square-byte-requires-2 t c κs =
-    omega (arith, c .before .before .before .before .before .before .before .before .before .before .before .before .before .before .before .before .before .before .before .pre, c .before .before .before .before .before .before .before .before .before .byte .ensures .ends, c .before .before .before .before .before .pretty .ensures .0)
-
-square-add-q : (t : ℕ) → square-lts.Need-add-q (square-claims t) (square-at t) square.Post
-square-add-q t c =
-    omega (arith, c .before .before .before .before .before .before .before .before .before .before .before .before .before .before .before .before .before .before .before .before .before .before .before .pre, c .before .before .before .before .before .before .before .before .before .pretty .ensures .0)
+    omega (arith, c .before .before .before .before .before .before .before .before .before .before .before .before .before .before .before .before .before .pre, c .before .before .before .before .before .before .before .byte .ensures .ends, c .before .before .before .cell .ensures .0)
 
 square-same-length : (t : ℕ) → square-lts.Need-same-length (square-claims t) (square-at t) square.Post
 square-same-length t c =
-    c .before .before .before .byte2 .kept .0 ∙ c .before .before .before .before .before .before .before .before .before .pretty .kept .1 .1 .1 .1 .1 .1 .1 .1 .1 .0 ∙ c .before .before .before .before .before .before .before .before .before .before .before .before .before .byte .kept .0
+    c .before .before .byte2 .kept .0 ∙ c .before .before .before .before .before .before .cell .kept .1 .1 .1 .1 .1 .1 .1 .1 .1 .1 .0 ∙ c .before .before .before .before .before .before .before .before .before .before .byte .kept .0
 
 square-returns : (t : ℕ) → square-lts.Need-returns (square-claims t) (square-at t) square.Post
 square-returns t c =
-    let a = c .before .before .before .before .before .before .before .before .before .before .before .before .before .before .before .before .before .before .before .before .before .before .before .args in
-    (omega (arith, c .before .before .before .before .before .before .before .before .before .before .before .before .before .before .before .before .before .before .before .before .before .before .before .pre, c .before .before .before .before .before .before .before .before .before .before .before .before .before .byte .ensures .ends, c .before .before .before .before .before .before .before .before .before .pretty .ensures .0, c .before .before .before .byte2 .ensures .ends), square-nil (c .before .before .before .before .before .before .before .before .before .pretty .result .p) (modeOf (a .paste)) (sym (c .before .before .before .before .before .if1 .taken) ∙ c .before .before .before .before .before .before .is-nil .ensures) (c .before .before .before .before .before .before .before .before .before .before .before .before .before .byte .ensures) (c .before .before .before .before .before .before .before .before .before .pretty .ensures .1) (c .before .before .before .byte2 .ensures))
-
-square-slice-aggregate-all : (t : ℕ) → square-lts.Need-slice-aggregate-all (square-claims t) (square-at t) square.Post
-square-slice-aggregate-all t c =
-    refl
-
-square-all-requires : (t : ℕ) → square-lts.Need-all-requires (square-claims t) (square-at t) square.Post
-square-all-requires t c κs =
-    omega (arith, c .before .before .before .before .before .before .before .before .before .before .before .before .before .before .before .before .before .before .before .before .pre, c .before .before .before .before .before .before .before .before .before .before .byte .ensures .ends, c .before .before .before .before .before .before .pretty .ensures .0)
-
-square-pretty-tail-requires : (t : ℕ) → square-lts.Need-pretty-tail-requires (square-claims t) (square-at t) square.Post
-square-pretty-tail-requires t c κs =
-    omega (arith, c .before .before .before .before .before .before .before .before .before .before .before .before .before .before .before .before .before .before .before .before .before .before .before .before .pre, c .before .before .before .before .before .before .before .before .before .before .before .before .before .before .byte .ensures .ends, c .before .before .before .before .before .before .before .before .before .before .pretty .ensures .0, c .before .before .before .all .ensures .ends)
-
-square-byte-requires-3 : (t : ℕ) → square-lts.Need-byte-requires-3 (square-claims t) (square-at t) square.Post
-square-byte-requires-3 t c κs =
-    omega (arith, c .before .before .before .before .before .before .before .before .before .before .before .before .before .before .before .before .before .before .before .before .before .before .before .before .before .before .before .before .pre, c .before .before .before .before .before .before .before .before .before .before .before .before .before .before .before .before .before .before .byte .ensures .ends, c .before .before .before .before .before .before .before .before .before .before .before .before .before .before .pretty .ensures .0, c .before .before .before .before .before .before .before .all .ensures .ends, c .before .before .before .pretty-tail .ensures .0)
-
-square-same-length-2 : (t : ℕ) → square-lts.Need-same-length-2 (square-claims t) (square-at t) square.Post
-square-same-length-2 t c =
-    c .before .before .byte3 .kept .0 ∙ c .before .before .before .before .before .before .pretty-tail .kept .1 .1 .1 .1 .1 .1 .1 .1 .1 .0 ∙ c .before .before .before .before .before .before .before .before .before .before .all .kept .0 ∙ c .before .before .before .before .before .before .before .before .before .before .before .before .before .before .before .before .before .pretty .kept .1 .1 .1 .1 .1 .1 .1 .1 .1 .0 ∙ c .before .before .before .before .before .before .before .before .before .before .before .before .before .before .before .before .before .before .before .before .before .byte .kept .0
-
-square-returns-2 : (t : ℕ) → square-lts.Need-returns-2 (square-claims t) (square-at t) square.Post
-square-returns-2 t c =
-    let a = c .before .before .before .before .before .before .before .before .before .before .before .before .before .before .before .before .before .before .before .before .before .before .before .before .before .before .before .before .before .before .before .args in
-    (omega (arith, c .before .before .before .before .before .before .before .before .before .before .before .before .before .before .before .before .before .before .before .before .before .before .before .before .before .before .before .before .before .before .before .pre, c .before .before .before .before .before .before .before .before .before .before .before .before .before .before .before .before .before .before .before .before .before .byte .ensures .ends, c .before .before .before .before .before .before .before .before .before .before .before .before .before .before .before .before .before .pretty .ensures .0, c .before .before .before .before .before .before .before .before .before .before .all .ensures .ends, c .before .before .before .before .before .before .pretty-tail .ensures .0, c .before .before .byte3 .ensures .ends), square-more (c .before .before .before .before .before .before .before .before .before .before .before .before .before .before .before .before .before .pretty .result .p) (modeOf (a .paste)) (sym (c .before .before .before .before .before .before .before .before .before .before .before .before .before .if1 .left) ∙ c .before .before .before .before .before .before .before .before .before .before .before .before .before .before .is-nil .ensures) (c .before .before .before .before .before .before .before .before .before .before .before .before .before .before .before .before .before .before .before .before .before .byte .ensures) (c .before .before .before .before .before .before .before .before .before .before .before .before .before .before .before .before .before .pretty .ensures .1) (c .before .before .before .before .before .before .before .before .before .before .all .ensures) (c .before .before .before .before .before .before .pretty-tail .ensures .1) (c .before .before .byte3 .ensures))
+    (omega (arith, c .before .before .before .before .before .before .before .before .before .before .before .before .before .before .before .before .before .before .before .before .pre, c .before .before .before .before .before .before .before .before .before .before .byte .ensures .ends, c .before .before .before .before .before .before .cell .ensures .0, c .before .before .byte2 .ensures .ends), around (c .before .before .before .before .before .before .before .before .before .before .byte .ensures) (c .before .before .before .before .before .before .cell .ensures .1) (c .before .before .byte2 .ensures))
 
 texts-returns : (t : ℕ) → texts-lts.Need-returns (texts-claims t) (texts-at t) texts.Post
 texts-returns t c =
@@ -772,14 +705,11 @@ pub +cell+ctor+field+fields+pretty+pretty-tail+round+spelled+square+texts-spec :
     (ctor-returns-3 t))
     (λ t. field-lts.spec (field-claims t) (field-at t)
     field.Post
-    (field-label-at-requires t)
-    (field-all-requires t)
+    (field-put-label-requires t)
     (field-at16-requires t)
     (field-add-q t)
     (field-same-length t)
     (field-returns t)
-    (field-slice-aggregate-all t)
-    (field-all-requires-2 t)
     (field-pretty-requires t)
     (field-same-length-2 t)
     (field-returns-2 t))
@@ -839,44 +769,31 @@ pub +cell+ctor+field+fields+pretty+pretty-tail+round+spelled+square+texts-spec :
     (round-returns t))
     (λ t. spelled-lts.spec (spelled-claims t) (spelled-at t)
     spelled.Post
+    (spelled-put-name-requires t)
     (spelled-at8-requires t)
-    (spelled-slice-aggregate-name-of t)
-    (spelled-at16-requires t)
-    (spelled-wide16-requires t)
-    (spelled-name-of-requires t)
-    (spelled-all-requires t)
-    (spelled-at8-requires-2 t)
     (spelled-wide8-requires t)
     (spelled-same-length t)
     (spelled-returns t)
+    (spelled-at16-requires t)
+    (spelled-wide16-requires t)
     (spelled-at16-requires-2 t)
-    (spelled-wide16-requires-2 t)
-    (spelled-at16-requires-3 t)
     (spelled-round-requires t)
     (spelled-same-length-2 t)
     (spelled-returns-2 t)
     (spelled-slice-aggregate-all t)
-    (spelled-all-requires-2 t)
+    (spelled-all-requires t)
     (spelled-fields-requires t)
     (spelled-slice-aggregate-all-2 t)
-    (spelled-all-requires-3 t)
+    (spelled-all-requires-2 t)
     (spelled-same-length-3 t)
     (spelled-returns-3 t))
     (λ t. square-lts.spec (square-claims t) (square-at t)
     square.Post
     (square-byte-requires t)
-    (square-pretty-requires t)
-    (square-is-nil-requires t)
+    (square-cell-requires t)
     (square-byte-requires-2 t)
-    (square-add-q t)
     (square-same-length t)
-    (square-returns t)
-    (square-slice-aggregate-all t)
-    (square-all-requires t)
-    (square-pretty-tail-requires t)
-    (square-byte-requires-3 t)
-    (square-same-length-2 t)
-    (square-returns-2 t))
+    (square-returns t))
     λ t. texts-lts.spec (texts-claims t) (texts-at t)
     texts.Post
     (texts-returns t)

@@ -1,0 +1,2 @@
+-- What the contracts of the missing walk say.
+pub mod Ready

@@ -1,0 +1,5 @@
+-- Laws of the report's lines.
+pub mod Verdicts
+pub mod Gaps
+pub mod Trailing
+pub mod Reports

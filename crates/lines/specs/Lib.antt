@@ -1,0 +1,2 @@
+-- The findings that the report says, as slices and numbers hold them.
+pub mod Findings

@@ -1,0 +1,9 @@
+-- What the proofs of several functions use.
+pub mod Orders
+pub mod Arities
+pub mod Columns
+pub mod Literals
+pub mod Steps
+pub mod Fronts
+pub mod Specialised
+pub mod Seen

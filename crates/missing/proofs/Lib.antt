@@ -1,0 +1,2 @@
+-- What the proof of `missing` uses.
+pub mod Driver

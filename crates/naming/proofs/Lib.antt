@@ -1,0 +1,3 @@
+-- Laws of names, looks and nodes.
+pub mod Naming
+pub mod Nodes

@@ -1,0 +1,28 @@
+-- `node::ctor_name` meets its contract.
+use mathlib.Core.Path.{ap₂, _∙_}
+use Prim.Native.Nat.{ℕ, _%_}
+use Rattle.naming.specs.Naming.{nameIn}
+use borrow.Author.Needs.{needs}
+use Rattle.naming.proofs.node.ctor_name.Statement.{statement}
+use Rattle.naming.proofs.node.ctor_name.Tie as tie
+
+at8-requires : tie.Need-at8-requires
+at8-requires c κs = search needs
+
+at16-requires : tie.Need-at16-requires
+at16-requires c κs = search needs
+
+wide16-requires : tie.Need-wide16-requires
+wide16-requires c κs = search needs
+
+name-of-requires : tie.Need-name-of-requires
+name-of-requires c κs = search needs
+
+returns : tie.Need-returns
+returns c =
+    let a = c .before .before .before .before .before .before .before .before .args in
+    (c .name-of .ensures .0 ∙ ap₂ (λ (k place : ℕ). nameIn (a .bytes .now) k (a .i % 32) place) (c .before .before .before .at8 .ensures) (c .before .wide16 .ensures ∙ c .before .before .at16 .ensures), c .name-of .ensures .1 .1)
+
+pub ctor-name-spec : {M : Type 1} → statement M
+ctor-name-spec =
+    tie.close (tie.spec at8-requires at16-requires wide16-requires name-of-requires returns)

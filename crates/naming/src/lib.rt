@@ -1,0 +1,3 @@
+// The names of constructors and fields, how a constructor looks, and what stands at a node.
+pub mod name;
+pub mod node;

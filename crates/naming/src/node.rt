@@ -1,0 +1,117 @@
+// What stands at a node: "[]", or a constructor that looks so and is named so.
+ghost use mathlib.Core.Path.{_≡_};
+ghost use mathlib.Core.Bool.{_&&_, _||_};
+ghost use Prim.Native.Nat.{_+_, _/_, _%_, _^_, _<_, _≤_};
+ghost use lib.ListN.{length, getD};
+ghost use Rattle.layout.specs.Types.{textAt};
+ghost use Rattle.writing.specs.Writing.{Wrote};
+ghost use Rattle.naming.specs.Naming.{fixedNames, nameIn, lookOf, modeOf, lookIn, nilNode, labelText};
+use crate::name::Look;
+use crate::name::label_at;
+use crate::name::look_by_kind;
+use crate::name::look_by_name;
+use crate::name::name_of;
+use cells::at8;
+use cells::at16;
+use cells::wide16;
+use writing::all;
+
+// Whether the node at p is "[]" of a list.
+fn is_nil(kinds: &[u8], nodes: &[u16], p: usize) -> bool
+    ensures { λ r. ⌜ r ≡ nilNode (now (kinds .entry)) (getD (now (nodes .entry)) p 0) ⌝ }
+{
+    let node = at16(nodes, p);
+    if node == 0 {
+        return false;
+    }
+    let i = wide16(node) - 1;
+    if at8(kinds, i / 32) != 3 {
+        return false;
+    }
+    i % 32 == 1
+}
+
+// Whether the tail at p is left out: "[]" after the first element, and in the paste text after a further one.
+pub fn closes(first: bool, paste: bool, kinds: &[u8], nodes: &[u16], p: usize) -> bool
+    ensures { λ r. ⌜ r ≡ ((first || paste) && nilNode (now (kinds .entry)) (getD (now (nodes .entry)) p 0)) ⌝ }
+{
+    if first {
+        return is_nil(kinds, nodes, p);
+    }
+    if !paste {
+        return false;
+    }
+    is_nil(kinds, nodes, p)
+}
+
+// The name of the constructor with the number i: a part of the fixed names or of the decoded bytes.
+fn ctor_name<'a>(
+    fixed: &'a [u8],
+    bytes: &'a [u8],
+    kinds: &[u8],
+    names: &[u16],
+    i: usize,
+) -> &'a [u8]
+    requires { ⌜ now fixed ≡ fixedNames ⌝ }
+    ensures { λ r. ⌜ now r ≡ nameIn (now (bytes .entry)) (getD (now (kinds .entry)) (i / 32) 0) (i % 32) (getD (now (names .entry)) i 0) ⌝ }
+    ensures { λ r. ⌜ length (now r) ≤ 255 ⌝ }
+{
+    name_of(
+        fixed,
+        bytes,
+        at8(kinds, i / 32),
+        i % 32,
+        wide16(at16(names, i)),
+    )
+}
+
+// How the constructor with the number i looks.
+pub fn look(paste: bool, bytes: &[u8], kinds: &[u8], names: &[u16], i: usize) -> Look
+    ensures { λ r. ⌜ r ≡ lookOf (lookIn (modeOf paste) (now (bytes .entry)) (getD (now (kinds .entry)) (i / 32) 0) (i % 32) (getD (now (names .entry)) i 0)) ⌝ }
+{
+    if paste {
+        return look_by_kind(at8(kinds, i / 32), i % 32);
+    }
+    let fixed = names::fixed_names();
+    let cons = *b"::";
+    let tuple = names::tuple_name();
+    look_by_name(ctor_name(&fixed, bytes, kinds, names, i), &cons, &tuple)
+}
+
+// The name of the constructor with the number i, written.
+pub fn put_name(
+    bytes: &[u8],
+    kinds: &[u8],
+    names: &[u16],
+    i: usize,
+    out: &mut [u8],
+    at: usize,
+) -> usize
+    requires { ⌜ at + 255 < 2 ^ 64 ⌝ }
+    ensures { λ r. ⌜ Wrote (now (out .entry)) (now (out .exit)) at r (nameIn (now (bytes .entry)) (getD (now (kinds .entry)) (i / 32) 0) (i % 32) (getD (now (names .entry)) i 0)) ⌝ }
+    ensures { λ r. ⌜ r ≤ at + 255 ⌝ }
+{
+    let fixed = names::fixed_names();
+    all(out, at, ctor_name(&fixed, bytes, kinds, names, i))
+}
+
+// The label that stands at a place, and a colon unless the pattern at p is a wildcard.
+pub fn put_label(
+    bytes: &[u8],
+    nodes: &[u16],
+    p: usize,
+    label: usize,
+    out: &mut [u8],
+    at: usize,
+) -> usize
+    requires { ⌜ at + 257 < 2 ^ 64 ⌝ }
+    ensures { λ r. ⌜ Wrote (now (out .entry)) (now (out .exit)) at r (labelText (textAt (now (bytes .entry)) label) (getD (now (nodes .entry)) p 0)) ⌝ }
+    ensures { λ r. ⌜ r ≤ at + 257 ⌝ }
+{
+    let next = all(out, at, label_at(bytes, label));
+    if at16(nodes, p) == 0 {
+        return next;
+    }
+    let colon = *b": ";
+    all(out, next, &colon)
+}

@@ -1,0 +1,54 @@
+-- `paths::put_step` meets its contract: a node alone, or with its wildcards.
+use Rattle.paths.proofs.PathPuts.{put-alone, put-wilds}
+use Rattle.matrix.proofs.Arities.{arity-byte}
+use native.Mathlib.Omega.{arith}
+use lib.ListN.{replicate}
+use Prim.Native.Nat.{ℕ}
+use mathlib.Core.Path.{subst₂}
+use Rattle.paths.specs.Spread.{Put}
+use borrow.Author.Needs.{needs}
+use Rattle.paths.proofs.put_step.Statement.{statement}
+use Rattle.paths.proofs.put_step.Tie as tie
+
+put16-requires : tie.Need-put16-requires
+put16-requires c κs = search needs
+
+same-length : tie.Need-same-length
+same-length c = search needs
+
+returns : tie.Need-returns
+returns c =
+    let a = c .before .before .before .before .before .before .before .args in
+    let p = c .before .before .before .put16 in
+    put-alone (a .arities .now) (a .out .now) (a .node) (a .set) (a .at) (c .if1 .taken) (p .result) (p .last .0) (p .ensures .0) (p .ensures .1)
+
+arity-requires : tie.Need-arity-requires
+arity-requires c κs = search needs
+
+put-wilds-requires : tie.Need-put-wilds-requires
+put-wilds-requires c κs =
+    let a = c .before .before .before .before .before .before .before .before .before .args in
+    omega (arith, c .before .before .before .before .before .put16 .ensures .0, c .before .arity .ensures, arity-byte (a .arities .now) (λ i. omega (arith, c .before .before .before .before .before .before .before .before .shared-slice-known .given i)) (a .node), c .before .before .before .before .before .before .before .before .before .pre)
+
+same-length-2 : tie.Need-same-length-2
+same-length-2 c = search needs
+
+returns-2 : tie.Need-returns-2
+returns-2 c =
+    let a = c .before .before .before .before .before .before .before .before .before .before .before .before .args in
+    let p = c .before .before .before .before .before .before .before .before .put16 in
+    let w = c .before .before .put-wilds in
+    put-wilds (a .arities .now) (a .out .now) (a .node) (a .set) (a .at) (c .before .before .before .before .before .if1 .left) (p .last .0) (p .ensures .1) (w .result) (w .last .0)
+    (subst₂ (λ (x k : ℕ). Put (p .last .0) x (replicate k 0) (w .result) (w .last .0)) (p .ensures .0) (c .before .before .before .before .arity .ensures) (w .ensures))
+
+pub put-step-spec : {M : Type 1} → statement M
+put-step-spec =
+    tie.close
+    (tie.spec
+    put16-requires
+    same-length
+    returns
+    arity-requires
+    put-wilds-requires
+    same-length-2
+    returns-2)

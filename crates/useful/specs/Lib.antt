@@ -1,0 +1,3 @@
+-- What the contracts of usefulness say.
+pub mod Ready
+pub mod Driver

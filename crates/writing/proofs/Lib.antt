@@ -1,0 +1,3 @@
+-- Laws of writing and of numbers in decimal.
+pub mod Writing
+pub mod Decimals

@@ -1,0 +1,2 @@
+-- What every writer promises.
+pub mod Writing
