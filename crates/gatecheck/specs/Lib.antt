@@ -1,0 +1,2 @@
+-- What the exported function promises.
+pub mod Called

@@ -1,0 +1,30 @@
+// `check` for programs in C and Rust: the static library.
+use block::check;
+use scope::Answer;
+ghost use Rattle.gatecheck.specs.Called.{Called};
+
+// The answer's number, 0 for a report; its line and the report's length through the last two.
+#[no_mangle]
+pub extern "C" fn gatesorrel_check(
+    file: &[u8],
+    scratch: &mut [u16],
+    report: &mut [u8],
+    line: &mut usize,
+    length: &mut usize,
+) -> u8
+    ensures { λ r. ⌜ Called (now (file .entry)) (now (scratch .entry)) (now (report .entry)) r (now (line .exit)) (now (length .exit)) (now (report .exit)) (now (scratch .exit)) ⌝ }
+{
+    let r = check(file, scratch, report);
+    match r {
+        Answer::Report { length: n } => {
+            *line = 0;
+            *length = n;
+            0
+        }
+        Answer::Refused { number, line: k } => {
+            *line = k;
+            *length = 0;
+            number
+        }
+    }
+}
