@@ -12,7 +12,7 @@ use Rattle.scope.specs.Report.{findings}
 use Rattle.scope.proofs.Parsing.{Good, block-good}
 use Rattle.scope.proofs.Fitting.{all-suit}
 use Rattle.scope.proofs.Gaps.{missing-typed}
-use Rattle.reading.specs.Said as read
+use Rattle.entering.specs.Said as read
 use Rattle.reading.specs.Files.{HoldsBlock}
 use Rattle.reading.proofs.Literals.{block-literal}
 use Rattle.source.proofs.Blocks.{block-sound}

@@ -7,3 +7,4 @@ pub mod Answering
 pub mod Outcomes
 pub mod Entry
 pub mod Printing
+pub mod Once

@@ -15,7 +15,7 @@ use Rattle.scope.specs.Answer.{refused, judgedIn, outcome}
 use Rattle.scope.proofs.Tests.{clash}
 use Rattle.scope.proofs.Answers.{outcome-2, outcome-lines, judged-faulty}
 use Rattle.reading.specs.declared.file.Parsed.the-variants as parsedAs
-use Rattle.reading.specs.Said as read
+use Rattle.entering.specs.Said as read
 use Rattle.reading.specs.Files.{fileOf, ReadAs, aBlock, aFault}
 use Rattle.reading.proofs.Whole.{file-long, file-lines}
 use Rattle.block.specs.Driver.{Holds, Known, Given}

@@ -3,3 +3,4 @@ pub mod Column
 pub mod Limits
 pub mod Walk
 pub mod Calls
+pub mod Once

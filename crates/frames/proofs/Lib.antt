@@ -7,3 +7,4 @@ pub mod Standing
 pub mod Framings
 pub mod Patterns
 pub mod Wholes
+pub mod Once

@@ -1,4 +1,4 @@
--- The numbers of each case of the answer, from what `check` promises; and any two outcomes that the contract permits are equal.
+-- The numbers of each case of the answer, from what `check` promises.
 use mathlib.Core.Path.{_≡_, refl, sym, ap, subst, _∙_}
 use mathlib.Core.List.{List}
 use Prim.Native.Nat.{ℕ}

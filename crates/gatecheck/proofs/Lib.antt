@@ -1,2 +1,3 @@
 -- What the proof of the exported function uses.
 pub mod Calls
+pub mod Once

@@ -3,3 +3,4 @@ pub mod Verdicts
 pub mod Gaps
 pub mod Trailing
 pub mod Reports
+pub mod Once

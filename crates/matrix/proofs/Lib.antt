@@ -7,3 +7,4 @@ pub mod Steps
 pub mod Fronts
 pub mod Specialised
 pub mod Seen
+pub mod Once

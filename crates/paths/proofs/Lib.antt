@@ -4,3 +4,4 @@ pub mod PathSpread
 pub mod PathPuts
 pub mod PathChoose
 pub mod PathColumn
+pub mod Once

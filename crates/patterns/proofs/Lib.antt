@@ -11,3 +11,4 @@ pub mod Items
 pub mod Rounds
 pub mod Beside
 pub mod Rows
+pub mod Once

@@ -1,8 +1,4 @@
--- What the slices and the numbers say, kept by each line.
-pub mod Checks
-pub mod Framing
-pub mod Entering
-pub mod Stepping
+-- The lines of a file, and the whole of it.
 pub mod Lines
 pub mod Whole
 pub mod Once

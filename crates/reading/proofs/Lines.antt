@@ -22,14 +22,15 @@ use Rattle.table.proofs.Held.{take-through}
 use Rattle.table.proofs.Carried.{empty-holds, more-holds}
 use Rattle.patterns.specs.Rows.{RowAt}
 use Rattle.patterns.proofs.Rows.{row-grown}
-use Rattle.reading.specs.declared.state.State.{State}
-use Rattle.reading.specs.declared.step.Step.{Step}
-use Rattle.reading.specs.declared.step.Step.the-variants.{On, Refused}
+use Rattle.order.specs.declared.State.{State}
+use Rattle.order.specs.Phases.{phaseOf, Numbers}
+use Rattle.entering.specs.declared.Step.{Step}
+use Rattle.entering.specs.declared.Step.the-variants.{On, Refused}
 use Rattle.reading.specs.declared.file.Parsed as answers
-use Rattle.reading.specs.Said.{Held, held, Sized, phaseOf, Rows, Says, Stepped, goes, stops}
-use Rattle.reading.specs.Enters.{Numbers}
-use Rattle.reading.specs.Files.{HoldsBlock, LinesAs}
-use Rattle.reading.proofs.Entering.{no-rows}
+use Rattle.entering.specs.Said.{Held, held, Sized, Rows, Says, Stepped, goes, stops}
+use Rattle.reading.specs.Files.{HoldsBlock, fileOf, LinesAs}
+use Rattle.entering.proofs.Entering.{no-rows}
+use Rattle.reading.proofs.Whole.{file-lines}
 
 -- the slices, with more bytes
 abbrev pub grown : Held → List ℕ → Held
@@ -85,17 +86,18 @@ parse-bad k σ l rest e = rw e
 pub record Within (file : List ℕ) (k i at : ℕ) (s : State) (h : Held) : Type 0 where
   pub state : scope.State
   pub says : Says h s state
-  pub onward : blockOf (lines file) ≡ parse k state (lines (drop i file))
+  pub short : length file ≤ 49152
+  pub onward : fileOf file ≡ parse k state (lines (drop i file))
   pub packed : 2 * at ≤ i
   pub inside : i ≤ length file
   pub numbered : k ≤ i + 1
   pub sized : Sized h
 
 -- nothing is read yet
-pub within-start : (file : List ℕ) (s : State) (bytes kinds counts arities starts names fields labels nodes left rows : List ℕ) → Numbers s 0 0 0 0 0 → labels ≡ replicate 5120 0 → Sized (held bytes kinds counts arities starts names fields labels nodes left rows)
+pub within-start : (file : List ℕ) → length file ≤ 49152 → (s : State) (bytes kinds counts arities starts names fields labels nodes left rows : List ℕ) → Numbers s 0 0 0 0 0 → labels ≡ replicate 5120 0 → Sized (held bytes kinds counts arities starts names fields labels nodes left rows)
     → Within file 1 0 0 s (held (take 0 bytes) kinds counts arities starts names fields labels nodes left rows)
 unfolding blockOf
-within-start file s bytes kinds counts arities starts names fields labels nodes left rows n e z =
+within-start file l s bytes kinds counts arities starts names fields labels nodes left rows n e z =
     record {
       state = start;
       says = record {
@@ -108,7 +110,8 @@ within-start file s bytes kinds counts arities starts names fields labels nodes 
         rowsAre = no-rows _ _ _ _ _ _ _ (n .countIs) (n .usedIs);
         inPhase = tt;
       };
-      onward = refl;
+      short = l;
+      onward = file-lines file l;
       packed = omega arith;
       inside = omega arith;
       numbered = omega arith;
@@ -126,7 +129,7 @@ stopped (stops m) n e = let i : m ≡ n = cc in ap refuse i
 
 module _ {file : List ℕ} {k i at : ℕ} {s : State} {h : Held} (v : Within file k i at s h) where
   -- 3
-  pub line-bad : {before after : List ℕ} → RefusedLine file i before after → blockOf (lines file) ≡ faulty 3 k
+  pub line-bad : {before after : List ℕ} → RefusedLine file i before after → fileOf file ≡ faulty 3 k
   line-bad t = v .onward ∙ ap (parse k (v .state)) (t .begins) ∙ parse-bad k (v .state) (t .line) (t .others) (t .bad)
 
   module _ (before after : List ℕ) (next to : ℕ) (t : TakenLine file i before at next to after) (so-far : h .bytes ≡ take at before) (fits : length file ≤ 2 * length before) where
@@ -159,10 +162,10 @@ module _ {file : List ℕ} {k i at : ℕ} {s : State} {h : Held} (v : Within fil
     line-says = rw bytes-are (says-grown line-bytes (v .says))
 
     module _ (r : Step) {h′ : Held} (x : Stepped h′ r (framed (v .state) (drop at (take to after)))) where
-      goes-on : blockOf (lines file) ≡ goOn k (framed (v .state) (drop at (take to after))) (λ σ′. parse (suc k) σ′ (lines (drop next file)))
+      goes-on : fileOf file ≡ goOn k (framed (v .state) (drop at (take to after))) (λ σ′. parse (suc k) σ′ (lines (drop next file)))
       goes-on = v .onward ∙ ap (parse k (v .state)) (t .begins) ∙ parse-next k (v .state) (t .digitsOf) (lines (drop next file)) (t .good) ∙ ap (λ (bs : List ℕ). goOn k (framed (v .state) bs) (λ σ′. parse (suc k) σ′ (lines (drop next file)))) (sym line-is)
 
-      pub line-stops : (n : ℕ) → r ≡ Refused n → blockOf (lines file) ≡ faulty n k
+      pub line-stops : (n : ℕ) → r ≡ Refused n → fileOf file ≡ faulty n k
       line-stops n e = goes-on ∙ ap (λ (y : scope.Step scope.State). goOn k y (λ σ′. parse (suc k) σ′ (lines (drop next file)))) (stopped x n e)
 
       pub line-goes : (s′ : State) → r ≡ On s′ → Sized h′ → Within file (k + 1) next to s′ h′
@@ -171,6 +174,7 @@ module _ {file : List ℕ} {k i at : ℕ} {s : State} {h : Held} (v : Within fil
           record {
             state = g .0;
             says = g .1 .1;
+            short = v .short;
             onward = goes-on ∙ ap (λ (y : scope.Step scope.State). goOn k y (λ σ′. parse (suc k) σ′ (lines (drop next file)))) (g .1 .0) ∙ ap (λ (j : ℕ). parse j (g .0) (lines (drop next file))) (sym (add-one k));
             packed = t .packed;
             inside = t .inside;
@@ -180,11 +184,11 @@ module _ {file : List ℕ} {k i at : ℕ} {s : State} {h : Held} (v : Within fil
 
   -- the end of the file
   module _ (done : length file ≤ i) where
-    at-end : blockOf (lines file) ≡ finish k (v .state)
+    at-end : fileOf file ≡ finish k (v .state)
     unfolding lines parse
     at-end = v .onward ∙ ap (λ (l : List ℕ). parse k (v .state) (lines l)) (drop-of-length-le file done)
 
-    pub no-end : (s .phase ≡ 3 → ⊥) → blockOf (lines file) ≡ faulty 5 k
+    pub no-end : (s .phase ≡ 3 → ⊥) → fileOf file ≡ faulty 5 k
     no-end e = at-end ∙ ap (λ (p : Phase). finish k (record { phase = p; block = v .state .block })) (sym (v .says .phaseIs)) ∙ open-phase (s .phase) (v .says .low) e
       where
         open-phase : (p : ℕ) → p ≤ 3 → (p ≡ 3 → ⊥) → finish k (record { phase = phaseOf p; block = v .state .block }) ≡ faulty 5 k
@@ -197,10 +201,10 @@ module _ {file : List ℕ} {k i at : ℕ} {s : State} {h : Held} (v : Within fil
     pub the-block : s .phase ≡ 3 → (bytes : List ℕ) → h .bytes ≡ take at bytes → LinesAs file (grown h bytes) (answers.the-variants.Block (s .subject) (s .clauses) (s .types))
     the-block e bytes so-far =
         let b = v .state .block in
-        let is : blockOf (lines file) ≡ parsed b = at-end ∙ ap (λ (p : Phase). finish k (record { phase = p; block = b })) (sym (v .says .phaseIs) ∙ ap phaseOf e) in
+        let is : fileOf file ≡ parsed b = at-end ∙ ap (λ (p : Phase). finish k (record { phase = p; block = b })) (sym (v .says .phaseIs) ∙ ap phaseOf e) in
         let whole : h .bytes ++ drop at bytes ≡ bytes = ap (λ (l : List ℕ). l ++ drop at bytes) so-far ∙ take-append-drop at bytes in
         let w : Says (grown h bytes) s (v .state) = subst (λ (l : List ℕ). Says (grown h l) s (v .state)) whole (says-grown (drop at bytes) (v .says)) in
-        let g = block-good (lines file) b is in
+        let g = block-good (lines file) b (sym (file-lines file (v .short)) ∙ is) in
         let few : s .clauses ≤ 64 = omega (arith, w .clausesAre, w .rowsAre .few) in
         let long : length (take (s .clauses) (h .rows)) ≡ length (b .rows) = length-take-le (s .clauses) (h .rows) (omega (arith, v .sized .rowsLong)) ∙ w .clausesAre in
         let row : (j : ℕ) → j < length (b .rows) → RowAt bytes (h .nodes) (h .left) (b .table) (getD (take (s .clauses) (h .rows)) j 0) (getD (b .rows) j []) = λ j l. rw (getD-take (s .clauses) (h .rows) j 0 (omega (arith, w .clausesAre))) (w .rowsAre .each j l) in

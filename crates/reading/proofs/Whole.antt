@@ -8,8 +8,8 @@ use Rattle.scope.specs.Lines.{lines}
 use Rattle.scope.specs.Blocks.{faulty, blockOf}
 use Rattle.reading.specs.declared.file.Parsed.{Parsed}
 use Rattle.reading.specs.declared.file.Parsed.the-variants.{Block, Faulty}
-use Rattle.reading.specs.Said.{Held, Sized}
-use Rattle.reading.specs.Files.{Blank, fileOf, LinesAs, ReadAs, aBlock, aFault}
+use Rattle.entering.specs.Said.{Held, Sized}
+use Rattle.reading.specs.Files.{Blank, fileOf, LinesAs, Settled, stays, blanks, ReadAs, aBlock, aFault}
 
 -- 2
 pub file-long : (file : List ℕ) → 49152 < length file → fileOf file ≡ faulty 2 0
@@ -41,9 +41,15 @@ sized-as z a b d e f g i j k l =
 pub zero-now : (s s₀ : List ℕ) → s ≡ replicate (length s₀) 0 → s ≡ replicate (length s) 0
 zero-now s s₀ e = e ∙ ap (λ (n : ℕ). replicate n 0) (sym (ap length e ∙ length-replicate {A = ℕ} (length s₀) 0))
 
-module _ (file : List ℕ) (l : length file ≤ 49152) (h : Held) (r : Parsed) (x : LinesAs file h r) where
-  pub block-read : (subject clauses types : ℕ) → r ≡ Block subject clauses types → ReadAs file h (Block subject clauses types)
-  block-read subject clauses types e = let y = subst (λ (v : Parsed). LinesAs file h v) e x in aBlock (y .0) (file-lines file l ∙ y .1) (y .2)
+-- a block's slices, as they were, and a refusal's, cleared
+module _ {h h′ : Held} (r : Parsed) where
+  pub block-stays : (subject clauses types : ℕ) → r ≡ Block subject clauses types → h′ ≡ h → Settled h h′ r
+  block-stays subject clauses types e same = subst (λ (v : Parsed). Settled h h′ v) (sym e) (stays same)
 
-  pub fault-read : (n k : ℕ) → r ≡ Faulty n k → {h′ : Held} → Sized h′ → Blank h′ → ReadAs file h′ (Faulty n k)
-  fault-read n k e z b = aFault (file-lines file l ∙ subst (λ (v : Parsed). LinesAs file h v) e x) z b
+  pub fault-blanks : (n k : ℕ) → r ≡ Faulty n k → Blank h′ → Settled h h′ r
+  fault-blanks n k e b = subst (λ (v : Parsed). Settled h h′ v) (sym e) (blanks b)
+
+-- what is read, settled
+pub settled-read : (file : List ℕ) {h h′ : Held} {r : Parsed} → Settled h h′ r → LinesAs file h r → Sized h′ → ReadAs file h′ r
+settled-read file (stays {subject = subject} {clauses = clauses} {types = types} e) x z = subst (λ (i : Held). ReadAs file i (Block subject clauses types)) (sym e) (aBlock (x .0) (x .1) (x .2))
+settled-read file (blanks b) x z = aFault x z b

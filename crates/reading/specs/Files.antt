@@ -15,7 +15,7 @@ use Rattle.layout.specs.Nodes.{HoldsRows}
 use Rattle.patterns.specs.Rows.{RowAt}
 use Rattle.reading.specs.declared.file.Parsed.{Parsed}
 use Rattle.reading.specs.declared.file.Parsed.the-variants.{Block, Faulty}
-use Rattle.reading.specs.Said.{Held, Sized}
+use Rattle.entering.specs.Said.{Held, Sized}
 
 -- the slices hold a block: its types, its rows, one for each clause, with every literal whole among the bytes; and it is sound
 pub record HoldsBlock (h : Held) (subject clauses types : ℕ) (b : scope.Block) : Type 0 where
@@ -49,10 +49,15 @@ pub record Blank (h : Held) : Type 0 where
 unfoldable pub fileOf : List ℕ → scope.Parsed
 fileOf file = let read = blockOf (lines file) in cond (ltb maxFile (length file)) (faulty 2 0) read
 
--- the block that the lines say, in the slices, or the refusal and its line
+-- the block that the file says, in the slices, or the refusal and its line
 abbrev pub LinesAs : List ℕ → Held → Parsed → Type 0
-LinesAs file h (Block subject clauses types) = (b : scope.Block) × (blockOf (lines file) ≡ parsed b) × HoldsBlock h subject clauses types b
-LinesAs file h (Faulty n k) = blockOf (lines file) ≡ faulty n k
+LinesAs file h (Block subject clauses types) = (b : scope.Block) × (fileOf file ≡ parsed b) × HoldsBlock h subject clauses types b
+LinesAs file h (Faulty n k) = fileOf file ≡ faulty n k
+
+-- a block's slices stay as they are; a refusal's are blank
+pub data Settled (h h′ : Held) : Parsed → Type 0 where
+  stays : {subject clauses types : ℕ} → h′ ≡ h → Settled h h′ (Block subject clauses types)
+  blanks : {n k : ℕ} → Blank h′ → Settled h h′ (Faulty n k)
 
 -- the block that the file says, in the slices, or the refusal and its line, and the slices are blank
 pub data ReadAs (file : List ℕ) (h : Held) : Parsed → Type 0 where

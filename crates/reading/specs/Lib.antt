@@ -1,4 +1,2 @@
--- What the slices and the numbers say of a file so far, what one more line adds, and what a whole file gives.
-pub mod Said
-pub mod Enters
+-- What a whole file gives.
 pub mod Files

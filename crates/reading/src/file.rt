@@ -1,16 +1,16 @@
 // A file: 2, then its lines, one step each.
-use crate::state::start;
-use crate::step::Step;
-use crate::step::enter_line;
 use cells::clear;
 use cells::clear8;
+use entering::Step;
+use entering::enter_line;
 use frames::hex::Line;
 use frames::hex::read_line;
+use order::start;
 ghost use mathlib.Core.Path.{_≡_};
 ghost use Prim.Native.Nat.{_≤_};
 ghost use lib.ListN.{length, replicate};
-ghost use Rattle.reading.specs.Said.{held, Sized};
-ghost use Rattle.reading.specs.Files.{Blank, LinesAs, ReadAs};
+ghost use Rattle.entering.specs.Said.{held, Sized};
+ghost use Rattle.reading.specs.Files.{LinesAs, Settled, ReadAs};
 
 pub enum Parsed {
     Block {
@@ -24,7 +24,7 @@ pub enum Parsed {
     },
 }
 
-// The block that the lines of a file say, in the slices, or the refusal and its line.
+// The block that a file says, in the slices, or the refusal and its line: 2, then line by line.
 fn read_lines(
     file: &[u8],
     bytes: &mut [u8],
@@ -40,13 +40,15 @@ fn read_lines(
     left: &mut [u16],
     rows: &mut [u16],
 ) -> Parsed
-    requires { ⌜ length (now file) ≤ 49152 ⌝ }
     requires { ⌜ 24576 ≤ length (now bytes) ⌝ }
     requires { ⌜ Sized (held (now bytes) (now kinds) (now counts) (now arities) (now starts) (now names) (now fields) (now labels) (now nodes) (now left) (now rows)) ⌝ }
     requires { ⌜ now labels ≡ replicate 5120 0 ⌝ }
     requires { ⌜ 1920 ≤ length (now stack) ⌝ }
     ensures { λ r. ⌜ LinesAs (now (file .entry)) (held (now (bytes .exit)) (now (kinds .exit)) (now (counts .exit)) (now (arities .exit)) (now (starts .exit)) (now (names .exit)) (now (fields .exit)) (now (labels .exit)) (now (nodes .exit)) (now (left .exit)) (now (rows .exit))) r ⌝ }
 {
+    if 49152 < file.len() {
+        return Parsed::Faulty { number: 2, line: 0 };
+    }
     let mut s = start();
     let mut k = 1;
     let mut i = 0;
@@ -94,8 +96,9 @@ fn read_lines(
     Parsed::Faulty { number: 5, line: k }
 }
 
-// Zero everywhere, in every slice.
-fn blank(
+// After a refusal every slice is zero; the stack is in any case.
+fn settle(
+    r: Parsed,
     bytes: &mut [u8],
     kinds: &mut [u8],
     counts: &mut [u8],
@@ -109,9 +112,13 @@ fn blank(
     left: &mut [u16],
     rows: &mut [u16],
 )
-    ensures { λ _. ⌜ Blank (held (now (bytes .exit)) (now (kinds .exit)) (now (counts .exit)) (now (arities .exit)) (now (starts .exit)) (now (names .exit)) (now (fields .exit)) (now (labels .exit)) (now (nodes .exit)) (now (left .exit)) (now (rows .exit))) ⌝ }
+    ensures { λ _. ⌜ Settled (held (now (bytes .entry)) (now (kinds .entry)) (now (counts .entry)) (now (arities .entry)) (now (starts .entry)) (now (names .entry)) (now (fields .entry)) (now (labels .entry)) (now (nodes .entry)) (now (left .entry)) (now (rows .entry))) (held (now (bytes .exit)) (now (kinds .exit)) (now (counts .exit)) (now (arities .exit)) (now (starts .exit)) (now (names .exit)) (now (fields .exit)) (now (labels .exit)) (now (nodes .exit)) (now (left .exit)) (now (rows .exit))) r ⌝ }
     ensures { λ _. ⌜ now (stack .exit) ≡ replicate (length (now (stack .entry))) 0 ⌝ }
 {
+    clear(stack);
+    let Parsed::Faulty { .. } = r else {
+        return;
+    };
     clear8(bytes);
     clear8(kinds);
     clear8(counts);
@@ -120,7 +127,6 @@ fn blank(
     clear(names);
     clear8(fields);
     clear(labels);
-    clear(stack);
     clear(nodes);
     clear(left);
     clear(rows);
@@ -148,23 +154,6 @@ pub fn read(
     ensures { λ r. ⌜ ReadAs (now (file .entry)) (held (now (bytes .exit)) (now (kinds .exit)) (now (counts .exit)) (now (arities .exit)) (now (starts .exit)) (now (names .exit)) (now (fields .exit)) (now (labels .exit)) (now (nodes .exit)) (now (left .exit)) (now (rows .exit))) r ⌝ }
     ensures { λ _. ⌜ now (stack .exit) ≡ replicate (length (now (stack .entry))) 0 ⌝ }
 {
-    if 49152 < file.len() {
-        blank(
-            bytes,
-            kinds,
-            counts,
-            arities,
-            starts,
-            names,
-            fields,
-            labels,
-            stack,
-            nodes,
-            left,
-            rows,
-        );
-        return Parsed::Faulty { number: 2, line: 0 };
-    }
     clear(labels);
     let r = read_lines(
         file,
@@ -181,35 +170,20 @@ pub fn read(
         left,
         rows,
     );
-    match r {
-        Parsed::Block {
-            subject,
-            clauses,
-            types,
-        } => {
-            clear(stack);
-            Parsed::Block {
-                subject,
-                clauses,
-                types,
-            }
-        }
-        Parsed::Faulty { number, line } => {
-            blank(
-                bytes,
-                kinds,
-                counts,
-                arities,
-                starts,
-                names,
-                fields,
-                labels,
-                stack,
-                nodes,
-                left,
-                rows,
-            );
-            Parsed::Faulty { number, line }
-        }
-    }
+    settle(
+        r,
+        bytes,
+        kinds,
+        counts,
+        arities,
+        starts,
+        names,
+        fields,
+        labels,
+        stack,
+        nodes,
+        left,
+        rows,
+    );
+    r
 }

@@ -13,3 +13,4 @@ pub mod TypeMeans
 pub mod CtorMeans
 pub mod FreshMeans
 pub mod Carried
+pub mod Once

@@ -5,3 +5,4 @@ pub mod Looks
 pub mod Moves
 pub mod Patterns
 pub mod Cells
+pub mod Once

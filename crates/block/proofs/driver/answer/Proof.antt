@@ -5,7 +5,7 @@ use Prim.Native.Nat.{ℕ}
 use native.Mathlib.Omega.{arith}
 use lib.ListN.{length-replicate}
 use lib.Seq.{length-take-le}
-use Rattle.reading.specs.Said.{held}
+use Rattle.entering.specs.Said.{held}
 use Rattle.reading.specs.Files.{ReadAs}
 use Rattle.block.proofs.Outcomes.{known-read, few-read, block-checked, fault-checked}
 use Rattle.block.proofs.driver.answer.Statement.{statement}

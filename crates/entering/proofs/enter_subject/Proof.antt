@@ -1,0 +1,29 @@
+-- `entering::enter_subject` meets its contract: sound or 7.
+use mathlib.Core.Path.{refl, _∙_}
+use borrow.Author.Tests.{not-true, not-false}
+use Rattle.entering.specs.Enters.{unsound, sound}
+use Rattle.entering.proofs.Checks.{subject-bit}
+use borrow.Author.Needs.{needs}
+use Rattle.entering.proofs.enter_subject.Statement.{statement}
+use Rattle.entering.proofs.enter_subject.Tie as tie
+
+at8-requires : tie.Need-at8-requires
+at8-requires c κs = search needs
+
+wide8-requires : tie.Need-wide8-requires
+wide8-requires c κs = search needs
+
+is-sound-requires : tie.Need-is-sound-requires
+is-sound-requires c κs = search needs
+
+returns : tie.Need-returns
+returns c =
+    unsound (subject-bit (c .before .before .before .before .before .before .before .before .before .before .args .kinds .now) (c .before .before .before .before .before .before .before .before .before .before .args .counts .now) (c .before .before .before .before .before .before .before .before .before .before .args .arities .now) (c .before .before .before .before .before .before .before .before .before .before .args .starts .now) (c .before .before .before .before .before .before .before .before .before .before .args .fields .now) (c .before .before .before .before .before .before .before .before .before .before .args .s .fields) (c .before .before .before .before .before .before .before .before .before .before .args .s .types) _ _ (c .before .before .wide8 .ensures ∙ c .before .before .before .at8 .ensures) (c .before .is-sound .ensures) ∙ not-true _ (c .if1 .taken))
+
+returns-2 : tie.Need-returns-2
+returns-2 c =
+    sound (subject-bit (c .before .before .before .before .before .before .before .before .before .before .args .kinds .now) (c .before .before .before .before .before .before .before .before .before .before .args .counts .now) (c .before .before .before .before .before .before .before .before .before .before .args .arities .now) (c .before .before .before .before .before .before .before .before .before .before .args .starts .now) (c .before .before .before .before .before .before .before .before .before .before .args .fields .now) (c .before .before .before .before .before .before .before .before .before .before .args .s .fields) (c .before .before .before .before .before .before .before .before .before .before .args .s .types) _ _ (c .before .before .wide8 .ensures ∙ c .before .before .before .at8 .ensures) (c .before .is-sound .ensures) ∙ not-false _ (c .if1 .left)) (record { phaseIs = refl; typesAre = refl; ctorsAre = refl; fieldsAre = refl; subjectIs = c .before .before .wide8 .ensures ∙ c .before .before .before .at8 .ensures; clausesAre = refl; usedIs = refl; countIs = refl })
+
+pub enter-subject-spec : {M : Type 1} → statement M
+enter-subject-spec =
+    tie.close (tie.spec at8-requires wide8-requires is-sound-requires returns returns-2)

@@ -1,0 +1,74 @@
+-- `entering::kind_of` meets its contract: the tests come in document 01's order.
+use mathlib.Core.Path.{sym, _∙_}
+use borrow.Author.Tests.{not-true, not-false}
+use Rattle.entering.proofs.Checks.{kind-read, kind-zero, kind-over, out-of-place, too-many, not-whole, whole-frame}
+use borrow.Author.Needs.{needs}
+use Rattle.entering.proofs.kind_of.Statement.{statement}
+use Rattle.entering.proofs.kind_of.Tie as tie
+
+sub-read-frame : tie.Need-sub-read-frame
+sub-read-frame c = search needs
+
+part-read-frame-start : tie.Need-part-read-frame-start
+part-read-frame-start c = search needs
+
+part-read-frame-end : tie.Need-part-read-frame-end
+part-read-frame-end c = search needs
+
+read-frame-requires : tie.Need-read-frame-requires
+read-frame-requires c κs = search needs
+
+returns : tie.Need-returns
+returns c =
+    kind-zero (c .before .before .before .before .args .bytes .now) (c .before .before .before .before .args .at) (c .before .before .before .before .pre .0) (c .before .before .before .before .args .s) (c .before .before .before .before .args .last) (c .before .read-frame .result) (c .before .read-frame .ensures) (c .if1 .taken)
+
+returns-2 : tie.Need-returns-2
+returns-2 c =
+    kind-over (c .before .before .before .before .before .args .bytes .now) (c .before .before .before .before .before .args .at) (c .before .before .before .before .before .pre .0) (c .before .before .before .before .before .args .s) (c .before .before .before .before .before .args .last) (c .before .before .read-frame .result) (c .before .before .read-frame .ensures) (c .if2 .taken)
+
+stands-requires : tie.Need-stands-requires
+stands-requires c κs = search needs
+
+returns-3 : tie.Need-returns-3
+returns-3 c =
+    out-of-place (c .before .before .before .before .before .before .before .args .bytes .now) (c .before .before .before .before .before .before .before .args .at) (c .before .before .before .before .before .before .before .pre .0) (c .before .before .before .before .before .before .before .args .s) (c .before .before .before .before .before .before .before .args .last) (c .before .before .before .before .read-frame .result) (c .before .before .before .before .read-frame .ensures) (c .before .before .before .if1 .left) (c .before .before .if2 .left) (sym (c .before .stands .ensures) ∙ not-true _ (c .if3 .taken))
+
+has-room-requires : tie.Need-has-room-requires
+has-room-requires c κs = search needs
+
+returns-4 : tie.Need-returns-4
+returns-4 c =
+    too-many (c .before .before .before .before .before .before .before .before .before .args .bytes .now) (c .before .before .before .before .before .before .before .before .before .args .at) (c .before .before .before .before .before .before .before .before .before .pre .0) (c .before .before .before .before .before .before .before .before .before .args .s) (c .before .before .before .before .before .before .before .before .before .args .last) (c .before .before .before .before .before .before .read-frame .result) (c .before .before .before .before .before .before .read-frame .ensures) (c .before .before .before .before .before .if1 .left) (c .before .before .before .before .if2 .left) (sym (c .before .before .before .stands .ensures) ∙ not-false _ (c .before .before .if3 .left)) (sym (c .before .has-room .ensures) ∙ not-true _ (c .if4 .taken))
+
+enum-told : tie.Need-enum-told
+enum-told c = search needs
+
+enum-told-2 : tie.Need-enum-told-2
+enum-told-2 c = search needs
+
+returns-5 : tie.Need-returns-5
+returns-5 c =
+    (kind-read (c .before .before .before .before .before .before .before .before .before .before .before .args .bytes .now) (c .before .before .before .before .before .before .before .before .before .before .before .args .at) (c .before .before .before .before .before .before .before .before .before .before .before .pre .0) (c .before .before .before .before .before .before .before .before .before .before .before .args .s) (c .before .before .before .before .before .before .before .before .before .before .before .args .last) (c .before .before .before .before .before .before .before .before .read-frame .result) (c .before .before .before .before .before .before .before .before .read-frame .ensures), whole-frame (c .before .before .before .before .before .before .before .before .before .before .before .args .bytes .now) (c .before .before .before .before .before .before .before .before .before .before .before .args .at) (c .before .before .before .before .before .before .before .before .before .before .before .pre .0) (c .before .before .before .before .before .before .before .before .before .before .before .args .s) (c .before .before .before .before .before .before .before .before .before .before .before .args .last) (c .before .before .before .before .before .before .before .before .read-frame .result) (c .before .before .before .before .before .before .before .before .read-frame .ensures) (c .before .before .before .before .before .before .before .if1 .left) (c .before .before .before .before .before .before .if2 .left) (sym (c .before .before .before .before .before .stands .ensures) ∙ not-false _ (c .before .before .before .before .if3 .left)) (sym (c .before .before .before .has-room .ensures) ∙ not-false _ (c .before .before .if4 .left)) (c .enum-told .given .0 .0) (c .enum-told .given .1))
+
+returns-6 : tie.Need-returns-6
+returns-6 c =
+    not-whole (c .before .before .before .before .before .before .before .before .before .before .before .args .bytes .now) (c .before .before .before .before .before .before .before .before .before .before .before .args .at) (c .before .before .before .before .before .before .before .before .before .before .before .pre .0) (c .before .before .before .before .before .before .before .before .before .before .before .args .s) (c .before .before .before .before .before .before .before .before .before .before .before .args .last) (c .before .before .before .before .before .before .before .before .read-frame .result) (c .before .before .before .before .before .before .before .before .read-frame .ensures) (c .before .before .before .before .before .before .before .if1 .left) (c .before .before .before .before .before .before .if2 .left) (sym (c .before .before .before .before .before .stands .ensures) ∙ not-false _ (c .before .before .before .before .if3 .left)) (sym (c .before .before .before .has-room .ensures) ∙ not-false _ (c .before .before .if4 .left)) (c .enum-told2 .given .0 .0) (c .enum-told2 .given .1)
+
+pub kind-of-spec : {M : Type 1} → statement M
+kind-of-spec =
+    tie.close
+    (tie.spec
+    sub-read-frame
+    part-read-frame-start
+    part-read-frame-end
+    read-frame-requires
+    returns
+    returns-2
+    stands-requires
+    returns-3
+    has-room-requires
+    returns-4
+    enum-told
+    enum-told-2
+    returns-5
+    returns-6)

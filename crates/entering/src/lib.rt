@@ -1,0 +1,344 @@
+// One line's bytes: unknown kind (4), 5, 6, the rest of 4, then what the frame adds: 7, 8, 9.
+use cells::at8;
+use cells::put16;
+use cells::wide8;
+use frames::read::Read;
+use frames::reader::read_frame;
+use order::State;
+use order::has_room;
+use order::stands;
+use patterns::Simplified;
+use patterns::close;
+use patterns::simplify;
+use table::build::Sizes;
+use table::build::add_ctor;
+use table::build::add_type;
+use table::fresh::is_fresh;
+use table::sound::is_sound;
+ghost use mathlib.Core.Path.{_≡_};
+ghost use Prim.Native.Nat.{_+_, _-_, _<_, _≤_, _^_};
+ghost use Rattle.patterns.specs.Rows.{Ready};
+ghost use lib.ListN.{length, getD, drop};
+ghost use Rattle.scope.specs.Blocks as scope;
+ghost use Rattle.scope.specs.Blocks.{framed};
+ghost use Rattle.entering.specs.Said.{held, Sized, Known, Says, Stepped};
+ghost use Rattle.entering.specs.Enters.{EntersType, EntersCtor, EntersSubject, EntersClause, Ended, Kinded};
+
+pub enum Step {
+    On(State),
+    Refused(u8),
+}
+
+// 01 type.
+fn enter_type(
+    bytes: &[u8],
+    at: usize,
+    s: State,
+    kinds: &mut [u8],
+    counts: &mut [u8],
+    arities: &mut [u8],
+    starts: &mut [u16],
+    fields: &mut [u8],
+) -> State
+    requires { ⌜ at < 2 ^ 32 ⌝ }
+    requires { ⌜ s .types < 64 ⌝ }
+    requires { ⌜ s .fields < 2 ^ 32 ⌝ }
+    ensures { λ r. ⌜ EntersType (now (bytes .entry)) at s (now (kinds .entry)) (now (counts .entry)) (now (arities .entry)) (now (starts .entry)) (now (fields .entry)) (now (kinds .exit)) (now (counts .exit)) (now (arities .exit)) (now (starts .exit)) (now (fields .exit)) r ⌝ }
+{
+    let sizes = Sizes {
+        types: s.types,
+        ctors: s.ctors,
+        fields: s.fields,
+    };
+    let next = add_type(bytes, at, sizes, kinds, counts, arities, starts, fields);
+    let kind = at8(bytes, at);
+    if kind == 6 {
+        return State {
+            phase: 1,
+            types: next.types,
+            ctors: next.ctors,
+            fields: next.fields,
+            subject: 0,
+            clauses: 0,
+            used: 0,
+            count: 0,
+        };
+    }
+    State {
+        phase: 0,
+        types: next.types,
+        ctors: next.ctors,
+        fields: next.fields,
+        subject: 0,
+        clauses: 0,
+        used: 0,
+        count: 0,
+    }
+}
+
+// 02 constructor.
+fn enter_ctor(
+    bytes: &[u8],
+    at: usize,
+    s: State,
+    counts: &mut [u8],
+    arities: &mut [u8],
+    starts: &mut [u16],
+    names: &mut [u16],
+    fields: &mut [u8],
+    labels: &mut [u16],
+) -> Step
+    requires { ⌜ at < 2 ^ 32 ⌝ }
+    requires { ⌜ 0 < s .types ⌝ }
+    requires { ⌜ s .types ≤ 64 ⌝ }
+    requires { ⌜ s .ctors < 2 ^ 32 ⌝ }
+    requires { ⌜ s .fields < 2 ^ 32 ⌝ }
+    requires { ⌜ getD (now counts) (s .types - 1) 0 < 32 ⌝ }
+    ensures { λ r. ⌜ EntersCtor (now (bytes .entry)) at s (now (counts .entry)) (now (arities .entry)) (now (starts .entry)) (now (names .entry)) (now (fields .entry)) (now (labels .entry)) (now (counts .exit)) (now (arities .exit)) (now (starts .exit)) (now (names .exit)) (now (fields .exit)) (now (labels .exit)) r ⌝ }
+{
+    let t = s.types - 1;
+    if !is_fresh(bytes, at, names, counts, t) {
+        return Step::Refused(7);
+    }
+    let sizes = Sizes {
+        types: s.types,
+        ctors: s.ctors,
+        fields: s.fields,
+    };
+    let next = add_ctor(
+        bytes,
+        at,
+        sizes,
+        counts,
+        arities,
+        starts,
+        names,
+        fields,
+        labels,
+    );
+    Step::On(State {
+        phase: 1,
+        types: next.types,
+        ctors: next.ctors,
+        fields: next.fields,
+        subject: 0,
+        clauses: 0,
+        used: 0,
+        count: 0,
+    })
+}
+
+// 03 subject.
+fn enter_subject(
+    bytes: &[u8],
+    at: usize,
+    s: State,
+    kinds: &[u8],
+    counts: &[u8],
+    arities: &[u8],
+    starts: &[u16],
+    fields: &[u8],
+) -> Step
+    requires { ⌜ s .types ≤ 64 ⌝ }
+    ensures { λ r. ⌜ EntersSubject (now (bytes .entry)) at s (now (kinds .entry)) (now (counts .entry)) (now (arities .entry)) (now (starts .entry)) (now (fields .entry)) r ⌝ }
+{
+    let t = wide8(at8(bytes, at));
+    if !is_sound(kinds, counts, arities, starts, fields, s.fields, s.types, t) {
+        return Step::Refused(7);
+    }
+    Step::On(State {
+        phase: 2,
+        types: s.types,
+        ctors: s.ctors,
+        fields: s.fields,
+        subject: t,
+        clauses: 0,
+        used: 0,
+        count: 0,
+    })
+}
+
+// 04 clause.
+fn enter_clause(
+    bytes: &[u8],
+    at: usize,
+    s: State,
+    kinds: &[u8],
+    counts: &[u8],
+    arities: &[u8],
+    starts: &[u16],
+    fields: &[u8],
+    stack: &mut [u16],
+    nodes: &mut [u16],
+    left: &mut [u16],
+    rows: &mut [u16],
+) -> Step
+    requires { ⌜ Ready (now bytes) at (s .subject) (now fields) (now stack) (now nodes) (s .used) ⌝ }
+    requires { ⌜ s .count ≤ 4096 ⌝ }
+    requires { ⌜ s .clauses ≤ 64 ⌝ }
+    ensures { λ r. ⌜ EntersClause (now (bytes .entry)) at s (now (kinds .entry)) (now (counts .entry)) (now (arities .entry)) (now (starts .entry)) (now (fields .entry)) (now (nodes .entry)) (now (left .entry)) (now (rows .entry)) (now (nodes .exit)) (now (left .exit)) (now (rows .exit)) r ⌝ }
+{
+    let used = s.used;
+    let r = simplify(
+        bytes,
+        at,
+        s.subject,
+        kinds,
+        counts,
+        arities,
+        starts,
+        fields,
+        stack,
+        nodes,
+        left,
+        used,
+    );
+    let Simplified::Row { count } = r else {
+        return Step::Refused(8);
+    };
+    if 4096 - s.count < count {
+        return Step::Refused(9);
+    }
+    close(nodes, left, used + count);
+    put16(rows, s.clauses, (used % 65536) as u16);
+    Step::On(State {
+        phase: 2,
+        types: s.types,
+        ctors: s.ctors,
+        fields: s.fields,
+        subject: s.subject,
+        clauses: s.clauses + 1,
+        used: used + count + 1,
+        count: s.count + count,
+    })
+}
+
+// 05 end.
+fn enter_end(s: State) -> State
+    ensures { λ r. ⌜ Ended s r ⌝ }
+{
+    State {
+        phase: 3,
+        types: s.types,
+        ctors: s.ctors,
+        fields: s.fields,
+        subject: s.subject,
+        clauses: s.clauses,
+        used: s.used,
+        count: s.count,
+    }
+}
+
+// How many constructors the last type has.
+fn last_ctors(counts: &[u8], types: usize) -> usize
+    ensures { λ r. ⌜ (0 < types → r ≡ getD (now (counts .entry)) (types - 1) 0) ⌝ }
+{
+    if types == 0 {
+        return 0;
+    }
+    wide8(at8(counts, types - 1))
+}
+
+pub enum Kind {
+    Is(u8),
+    Refused(u8),
+}
+
+// The kind of a line's frame, where no fault comes before what the frame adds: unknown (4), 5, 6, the rest of 4.
+fn kind_of(bytes: &[u8], at: usize, s: State, last: usize) -> Kind
+    requires { ⌜ at < length (now bytes) ⌝ }
+    requires { ⌜ length (now bytes) ≤ 65536 ⌝ }
+    ensures { λ r. ⌜ Kinded (now (bytes .entry)) at s last r ⌝ }
+{
+    let f = read_frame(&bytes[at..]);
+    let kind = f.kind;
+    if kind == 0 {
+        return Kind::Refused(4);
+    }
+    if 5 < kind {
+        return Kind::Refused(4);
+    }
+    if !stands(s.phase, kind) {
+        return Kind::Refused(5);
+    }
+    if !has_room(s, last, kind) {
+        return Kind::Refused(6);
+    }
+    let end = f.end;
+    match end {
+        Read::At(_) => Kind::Is(kind),
+        Read::Fault(_) => Kind::Refused(4),
+    }
+}
+
+// A line's bytes, which stand from `at` to the end.
+pub fn enter_line(
+    bytes: &[u8],
+    at: usize,
+    s: State,
+    kinds: &mut [u8],
+    counts: &mut [u8],
+    arities: &mut [u8],
+    starts: &mut [u16],
+    names: &mut [u16],
+    fields: &mut [u8],
+    labels: &mut [u16],
+    stack: &mut [u16],
+    nodes: &mut [u16],
+    left: &mut [u16],
+    rows: &mut [u16],
+) -> Step
+    requires { ⌜ Known (held (now bytes) (now kinds) (now counts) (now arities) (now starts) (now names) (now fields) (now labels) (now nodes) (now left) (now rows)) s ⌝ }
+    requires { ⌜ Sized (held (now bytes) (now kinds) (now counts) (now arities) (now starts) (now names) (now fields) (now labels) (now nodes) (now left) (now rows)) ⌝ }
+    requires { ⌜ 1920 ≤ length (now stack) ⌝ }
+    requires { ⌜ at < length (now bytes) ⌝ }
+    requires { ⌜ length (now bytes) ≤ 24576 ⌝ }
+    requires { ⌜ length (now bytes) ≤ at + 640 ⌝ }
+    ensures { λ r. ⌜ ((σ : scope.State) → Says (held (now (bytes .entry)) (now (kinds .entry)) (now (counts .entry)) (now (arities .entry)) (now (starts .entry)) (now (names .entry)) (now (fields .entry)) (now (labels .entry)) (now (nodes .entry)) (now (left .entry)) (now (rows .entry))) s σ → Stepped (held (now (bytes .entry)) (now (kinds .exit)) (now (counts .exit)) (now (arities .exit)) (now (starts .exit)) (now (names .exit)) (now (fields .exit)) (now (labels .exit)) (now (nodes .exit)) (now (left .exit)) (now (rows .exit))) r (framed σ (drop at (now (bytes .entry))))) ⌝ }
+{
+    let last = last_ctors(counts, s.types);
+    let k = kind_of(bytes, at, s, last);
+    match k {
+        Kind::Refused(n) => Step::Refused(n),
+        Kind::Is(kind) => {
+            let from = at + 1;
+            if kind == 1 {
+                let next = enter_type(bytes, from, s, kinds, counts, arities, starts, fields);
+                return Step::On(next);
+            }
+            if kind == 2 {
+                return enter_ctor(
+                    bytes,
+                    from,
+                    s,
+                    counts,
+                    arities,
+                    starts,
+                    names,
+                    fields,
+                    labels,
+                );
+            }
+            if kind == 3 {
+                return enter_subject(bytes, from, s, kinds, counts, arities, starts, fields);
+            }
+            if kind == 4 {
+                return enter_clause(
+                    bytes,
+                    from,
+                    s,
+                    kinds,
+                    counts,
+                    arities,
+                    starts,
+                    fields,
+                    stack,
+                    nodes,
+                    left,
+                    rows,
+                );
+            }
+            Step::On(enter_end(s))
+        }
+    }
+}

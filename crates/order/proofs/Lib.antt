@@ -1,0 +1,2 @@
+-- The tests of a frame's place and of its room.
+pub mod Standing

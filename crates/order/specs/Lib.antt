@@ -1,0 +1,2 @@
+-- The order of frames, and how much a file may say.
+pub mod Phases
