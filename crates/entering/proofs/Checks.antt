@@ -12,10 +12,12 @@ use native.Mathlib.Nat.{add-zero}
 use native.Mathlib.Numerals.{add-one}
 use Rattle.scope.specs.Frames.{Frame, isKind, frame}
 use Rattle.scope.specs.Blocks.{ok, refuse, wholly}
-use Rattle.frames.specs.declared.read.Read.the-variants.{At, Fault}
-use Rattle.frames.specs.declared.reader.Framed.{Framed}
-use Rattle.frames.specs.Places.{placed, readAt, whole, frameOf}
-use Rattle.frames.proofs.Wholes.{whole-ok, whole-refused}
+use Rattle.fields.specs.declared.Read.the-variants.{At, Fault}
+use Rattle.fields.specs.Places.{placed, readAt}
+use Rattle.shape.specs.Wholes.{whole}
+use Rattle.shape.proofs.Wholes.{whole-ok, whole-refused}
+use Rattle.frames.specs.declared.Framed.{Framed}
+use Rattle.frames.specs.Lines.{frameOf}
 use Rattle.table.specs.Sound.{isSoundIn}
 use Rattle.order.specs.declared.State.{State}
 use Rattle.order.specs.Phases.{standsIn, roomIn}

@@ -2,8 +2,8 @@
 use cells::at8;
 use cells::put16;
 use cells::wide8;
-use frames::read::Read;
-use frames::reader::read_frame;
+use fields::Read;
+use frames::read_frame;
 use order::State;
 use order::has_room;
 use order::stands;

@@ -5,10 +5,12 @@ use Prim.Native.Nat.{ℕ, _+_, _≤_, _<_}
 use lib.ListN.{length, getD}
 use denote.Ref.{RefT, now}
 use Rattle.scope.specs.Frames as scope
-use Rattle.frames.specs.Places.{readAt, whole, frameOf}
-use Rattle.frames.specs.declared.read.Read.{Read}
-use Rattle.frames.specs.declared.reader.Framed.{Framed}
-use Rattle.frames.specs.declared.reader.Reader.{Reader}
+use Rattle.fields.specs.Places.{readAt}
+use Rattle.shape.specs.Wholes.{whole}
+use Rattle.frames.specs.Lines.{frameOf}
+use Rattle.fields.specs.declared.Read.{Read}
+use Rattle.frames.specs.declared.Framed.{Framed}
+use Rattle.frames.specs.declared.Reader.{Reader}
 
 module _ (s : RefT (List ℕ)) (r : Reader) (begun : (r .line ≡ s) × (r .at ≡ 0)) where
   -- a line has a first byte

@@ -1,10 +1,3 @@
--- Laws of a line's digits and of readers over a slice and a place.
-pub mod Hexadecimal
-pub mod Readers
-pub mod Readings
-pub mod Shapes
+-- Laws of the reader that stands over a line.
 pub mod Standing
 pub mod Framings
-pub mod Patterns
-pub mod Wholes
-pub mod Once

@@ -21,9 +21,9 @@ use denote.Struct.Laws as LL
 use denote.Struct.Rest.{all-own, ownAt, rest, own-open, own-out}
 use denote.Struct.Values.{Values}
 use denote.Triple.Walked.{says, needs}
-use Rattle.frames.specs.declared.reader.Reader.{Reader}
-use Rattle.frames.proofs.reader.Reader as T
-use Rattle.frames.proofs.reader.Reader.Laws as T′
+use Rattle.frames.specs.declared.Reader.{Reader}
+use Rattle.frames.proofs.Reader as T
+use Rattle.frames.proofs.Reader.Laws as T′
 
 -- the reader's type and laws, over a signature's lifetimes
 abbrev pub B : Lfts 1 → RattleType

@@ -1,3 +1,2 @@
--- What the contracts of this crate say: a line's digits, and the places that readers reach.
-pub mod Digits
-pub mod Places
+-- What the contracts of this crate say: the frame that a line holds.
+pub mod Lines

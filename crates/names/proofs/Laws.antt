@@ -7,8 +7,9 @@ use native.Mathlib.Numerals.{add-one}
 use native.Mathlib.Omega.{arith}
 use lib.ListN.{length, getD, take, drop, drop-of-length-le, length-drop}
 use lib.Seq.{drop-cons, take-all}
-use lib.Dec.{eqb, eqb·suc-suc}
-use borrow.Author.Tests.{eq-eqb, ne-eqb}
+use lib.Dec.{eqb, leb, eqb·suc-suc}
+use borrow.Author.Tests.{eq-eqb, ne-eqb, leb-true}
+use Rattle.scope.proofs.Tests.{both}
 use Rattle.scope.specs.Lists.{Text, all, among, same}
 use Rattle.scope.specs.Frames.{isDigit, isPositive, isDecimal}
 use Rattle.scope.specs.Text.{startsWith, contains}
@@ -36,6 +37,10 @@ and-false false = refl
 or-false : (z : Bool) → z || false ≡ z
 or-false true = refl
 or-false false = refl
+
+-- a test on lo to hi that is passed
+pub among-true : (lo hi b : ℕ) → among lo hi b ≡ true → (lo ≤ b) × (b ≤ hi)
+among-true lo hi b h = let p = both (leb lo b) (leb b hi) h in (leb-true lo b (p .0), leb-true b hi (p .1))
 
 -- every element from a place on passes: this one does not
 pub all-stops : (p : ℕ → Bool) (t : Text) (i : ℕ) → i < length t → p (getD t i 0) ≡ false → all p (drop i t) ≡ false

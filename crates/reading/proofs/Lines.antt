@@ -16,8 +16,8 @@ use Rattle.scope.specs.Types.{Table}
 use Rattle.scope.specs.Patterns.{Matrix}
 use Rattle.scope.specs.Blocks as scope
 use Rattle.scope.specs.Blocks.{Phase, types, clauses, start, ok, refuse, goOn, framed, line, parsed, faulty, finish, parse, blockOf}
-use Rattle.frames.specs.declared.hex.Line as hex
-use Rattle.frames.specs.Digits.{TakenLine, RefusedLine, Lined}
+use Rattle.hex.specs.declared.Line as hex
+use Rattle.hex.specs.Digits.{TakenLine, RefusedLine, Lined}
 use Rattle.table.proofs.Held.{take-through}
 use Rattle.table.proofs.Carried.{empty-holds, more-holds}
 use Rattle.patterns.specs.Rows.{RowAt}

@@ -1,0 +1,2 @@
+-- Laws of patterns as written.
+pub mod Written

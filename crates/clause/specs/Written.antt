@@ -1,0 +1,34 @@
+-- Where a pattern's reader stands in a line's bytes, and how many patterns it leaves to be read.
+use mathlib.Core.List.{List}
+use Prim.Native.Nat.{ℕ, _-_}
+use lib.ListN.{length, drop}
+use Rattle.scope.specs.Patterns.{Raw, inner}
+use Rattle.scope.specs.Frames as scope
+use Rattle.scope.specs.Frames.{fault, found, Reader}
+use Rattle.fields.specs.declared.Read.{Read}
+use Rattle.fields.specs.declared.Read.the-variants.{At, Fault}
+use Rattle.clause.specs.declared.Pattern.{Pattern}
+use Rattle.clause.specs.declared.Pattern as pattern
+
+-- past the patterns that there are: a fault
+abbrev pub nothing : Reader Raw
+nothing bs = fault bs
+
+-- the place that was reached after a pattern as written, and the count of its inner ones
+unfoldable pub placedPattern : ℕ → scope.Read Raw → Pattern
+placedPattern n (fault rest) = pattern.the-variants.Fault (n - length rest)
+placedPattern n (found p rest) = pattern.the-variants.At (n - length rest) (inner p)
+
+-- what a pattern's reader that begins at a place of the bytes reaches
+abbrev pub patternAt : List ℕ → ℕ → Reader Raw → Pattern
+patternAt bytes at r = placedPattern (length bytes) (r (drop at bytes))
+
+-- what was read leaves k inner patterns
+abbrev pub leaving : ℕ → Read → Pattern
+leaving k (At q) = pattern.the-variants.At q k
+leaving k (Fault q) = pattern.the-variants.Fault q
+
+-- how many patterns a pattern leaves to be read
+abbrev pub leaves : Pattern → ℕ
+leaves (pattern.the-variants.At q k) = k
+leaves (pattern.the-variants.Fault q) = 0

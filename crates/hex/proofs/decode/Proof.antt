@@ -1,0 +1,93 @@
+-- `hex::decode` meets its contract: in turn k the bytes before byte k are written.
+use Prim.Native.Nat.{ℕ, _≤_, _+_, _-_, _/_}
+use mathlib.Core.List.{List}
+use mathlib.Core.Path.{_≡_, refl, ap, _∙_}
+use lib.ListN.{length, take, set}
+use lib.Seq.{sets, length-sets}
+use Rattle.scope.specs.Lines.{isHex, unhex}
+use Rattle.hex.proofs.Hexadecimal.{length-unhex, all-at, decode-next, decode-done}
+use borrow.Author.Needs.{needs}
+use native.Mathlib.Omega.{arith}
+use Rattle.hex.proofs.decode.Statement.{statement}
+use Rattle.hex.proofs.decode.Tie as tie
+
+abbrev Inv-loop : tie.InvT-loop
+Inv-loop ds out₀ at n k₀ out k = (k ≤ n) × (n ≡ length ds / 2) × (out ≡ sets out₀ at (take k (unhex ds)))
+
+abbrev μ-loop : tie.MeasureT-loop
+μ-loop ds out₀ at n k₀ out k = n - k
+
+loop-holds : tie.Need-loop-holds Inv-loop μ-loop
+loop-holds c =
+    (omega arith, refl, refl)
+
+mul-byte-of : tie.Need-mul-byte-of Inv-loop μ-loop
+mul-byte-of c = search needs
+
+shared-slice-read-byte-of : tie.Need-shared-slice-read-byte-of Inv-loop μ-loop
+shared-slice-read-byte-of c = search needs
+
+mul-byte-of-2 : tie.Need-mul-byte-of-2 Inv-loop μ-loop
+mul-byte-of-2 c = search needs
+
+add-byte-of : tie.Need-add-byte-of Inv-loop μ-loop
+add-byte-of c = search needs
+
+shared-slice-read-byte-of-2 : tie.Need-shared-slice-read-byte-of-2 Inv-loop μ-loop
+shared-slice-read-byte-of-2 c = search needs
+
+byte-of-requires : tie.Need-byte-of-requires Inv-loop μ-loop
+byte-of-requires c κs =
+    (all-at isHex (c .before .before .before .before .before .before .args .ds .now) _ (c .before .before .before .before .before .before .pre .0) (omega arith), all-at isHex (c .before .before .before .before .before .before .args .ds .now) _ (c .before .before .before .before .before .before .pre .0) (omega arith))
+
+add-out : tie.Need-add-out Inv-loop μ-loop
+add-out c =
+    omega (arith, c .before .before .before .before .before .before .before .pre)
+
+slice-write-out : tie.Need-slice-write-out Inv-loop μ-loop
+slice-write-out c =
+    omega (arith, c .before .before .before .before .before .before .before .pre, ap length (c .before .before .before .before .loop .inv .2) ∙ length-sets (c .before .before .before .before .before .before .before .args .out .now) (c .before .before .before .before .before .before .before .args .at) (take (c .before .before .before .before .loop .k) (unhex (c .before .before .before .before .before .before .before .args .ds .now))))
+
+add-k : tie.Need-add-k Inv-loop μ-loop
+add-k c = search needs
+
+loop-less : tie.Need-loop-less Inv-loop μ-loop
+loop-less c = search needs
+
+loop-again : tie.Need-loop-again Inv-loop μ-loop
+loop-again c =
+    (omega arith, c .before .before .before .before .loop .inv .1, ap (λ (x : List ℕ). set x (c .before .before .before .before .before .before .before .args .at + c .before .before .before .before .loop .k) (c .byte-of .result)) (c .before .before .before .before .loop .inv .2) ∙ decode-next (c .before .before .before .before .before .before .before .args .ds .now) (c .before .before .before .before .before .before .before .args .out .now) (c .before .before .before .before .before .before .before .args .at) (c .before .before .before .before .loop .k) (c .byte-of .result) (omega arith) (c .byte-of .ensures))
+
+add-result : tie.Need-add-result Inv-loop μ-loop
+add-result c =
+    omega (arith, c .before .before .before .before .pre)
+
+same-length : tie.Need-same-length Inv-loop μ-loop
+same-length c =
+    ap length (c .before .loop .inv .2) ∙ length-sets (c .before .before .before .before .args .out .now) (c .before .before .before .before .args .at) (take (c .before .loop .k) (unhex (c .before .before .before .before .args .ds .now)))
+
+returns : tie.Need-returns Inv-loop μ-loop
+returns c =
+    (omega (arith, length-unhex (c .before .before .before .before .args .ds .now)), c .before .loop .inv .2 ∙ decode-done (c .before .before .before .before .args .ds .now) (c .before .before .before .before .args .out .now) (c .before .before .before .before .args .at) (c .before .loop .k) (omega arith))
+
+pub decode-spec : {M : Type 1} → statement M
+decode-spec =
+    tie.close
+    (tie.spec
+    Inv-loop
+    μ-loop
+    loop-holds
+    mul-byte-of
+    shared-slice-read-byte-of
+    mul-byte-of-2
+    add-byte-of
+    shared-slice-read-byte-of-2
+    byte-of-requires
+    add-out
+    slice-write-out
+    add-k
+    loop-less
+    loop-again
+    add-result
+    same-length
+    returns)

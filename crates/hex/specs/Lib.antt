@@ -1,0 +1,2 @@
+-- What the contracts of this crate say: a line's digits.
+pub mod Digits

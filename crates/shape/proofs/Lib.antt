@@ -1,0 +1,2 @@
+-- Laws of a whole frame.
+pub mod Wholes

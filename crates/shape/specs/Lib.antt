@@ -1,0 +1,2 @@
+-- What the contracts of this crate say: a whole frame.
+pub mod Wholes

@@ -1,0 +1,2 @@
+-- Laws of a type's frame and of a constructor's.
+pub mod Shapes
