@@ -20,7 +20,7 @@ use Rattle.fields.specs.Places.{placed, readAt}
 use Rattle.clause.specs.Written.{nothing, placedPattern, patternAt, leaving, leaves}
 use Rattle.fields.proofs.Readers.{Tail, Left, Keeps, give-keeps, fault-keeps, byte-keeps, passing-keeps, bind-keeps, judging-keeps, times-keeps, Every, choosing-keeps, give-stays, goes-on, found-at, place-back, tail-tail, tail-place, tail-length, drop-tail, any, byte-reads, Passed, Skipped, bind-bind, chosen, chosen-none}
 use Rattle.fields.proofs.Readings.{name-keeps, flag-bit, flag-keeps}
-use Rattle.names.proofs.Laws.{left}
+use Rattle.letters.proofs.Laws.{left}
 
 -- what was read leaves as many as what is made of it
 pub leaving-give : {A : Type 0} (n : ℕ) (x : scope.Read A) (f : A → Raw) (k : ℕ) → ((a : A) → inner (f a) ≡ k) → leaving k (placed n x) ≡ placedPattern n (andThen x (λ a. give (f a)))

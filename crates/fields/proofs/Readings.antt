@@ -9,7 +9,7 @@ use lib.Dec.{eqb}
 use Rattle.scope.specs.Lists.{Text, bit, among}
 use Rattle.scope.specs.Frames as scope
 use Rattle.scope.specs.Frames.{fault, found, Reader, andThen, _>>=_, give, byte, passing, within, flag, times, judging, bigName, smallName, text}
-use Rattle.names.proofs.Laws.{among-true}
+use Rattle.letters.proofs.Laws.{among-true}
 use Rattle.fields.specs.declared.Read.{Read}
 use Rattle.fields.specs.declared.Read.the-variants.{At, Fault}
 use Rattle.fields.specs.Places.{placed, readAt, letterOf, nameOf}

@@ -6,12 +6,12 @@ ghost use lib.ListN.{length};
 ghost use Rattle.scope.specs.Frames.{byte, passing, within, times, text};
 ghost use Rattle.fields.specs.Places.{readAt, letterOf, nameOf, judged};
 use cells::wide8;
-use names::among;
-use names::is_big;
-use names::is_decimal;
-use names::is_lower;
-use names::is_small;
-use names::is_upper;
+use letters::among;
+use letters::is_big;
+use letters::is_decimal;
+use letters::is_lower;
+use letters::is_small;
+use letters::is_upper;
 
 pub enum Read {
     At(usize),

@@ -7,21 +7,11 @@ ghost use lib.Seq.{sets};
 ghost use Rattle.scope.specs.Lists.{all};
 ghost use Rattle.scope.specs.Lines.{ended, isHex, hex, unhex, isLine};
 ghost use Rattle.hex.specs.Digits.{digits, Lined};
-use names::among;
+use letters::all_digits;
 
 pub enum Line {
     Good { next: usize, to: usize },
     Bad,
-}
-
-// A lower-case hexadecimal digit.
-pub fn is_hex(d: u8) -> bool
-    ensures { λ r. ⌜ r ≡ isHex d ⌝ }
-{
-    if among(48, 57, d) {
-        return true;
-    }
-    among(97, 102, d)
 }
 
 // The value of a digit.
@@ -60,20 +50,6 @@ fn line_end(file: &[u8], from: usize) -> usize
     i
 }
 
-// Whether all are digits.
-fn all_hex(ds: &[u8]) -> bool
-    ensures { λ r. ⌜ r ≡ all isHex (now (ds .entry)) ⌝ }
-{
-    let mut i = 0;
-    while i < ds.len() {
-        if !is_hex(ds[i]) {
-            return false;
-        }
-        i += 1;
-    }
-    true
-}
-
 // Whether a line that is ended is one: not empty, even, not over 1,280 digits, all hexadecimal.
 fn is_line(ds: &[u8]) -> bool
     ensures { λ r. ⌜ r ≡ isLine (ended (now (ds .entry))) ⌝ }
@@ -88,7 +64,7 @@ fn is_line(ds: &[u8]) -> bool
     if 1280 < n {
         return false;
     }
-    all_hex(ds)
+    all_digits(true, ds)
 }
 
 // The bytes that the digits say, written to out from `at` on; the place after them.

@@ -1,2 +1,2 @@
--- Laws of comparing and of tests over a text.
+-- Laws of comparing and of searching.
 pub mod Laws

@@ -2,7 +2,7 @@
 use mathlib.Core.Path.{_∙_}
 use lib.ListN.{getD}
 use Rattle.scope.specs.Lists.{among}
-use Rattle.names.proofs.Laws.{among-true}
+use Rattle.letters.proofs.Laws.{among-true}
 use Rattle.fields.proofs.Readers.{any, Passed, passed, byte-passed}
 use Rattle.clause.proofs.Written.{none-left, list-count, list-tail, list-found}
 use borrow.Author.Needs.{needs}

@@ -3,7 +3,7 @@ use mathlib.Core.Bool.{true}
 use lib.ListN.{getD}
 use Rattle.scope.specs.Lists.{among}
 use Rattle.fields.specs.Places.{letterOf}
-use Rattle.names.proofs.Laws.{among-true}
+use Rattle.letters.proofs.Laws.{among-true}
 use Rattle.fields.proofs.Readers.{Passed, passed}
 use Rattle.fields.proofs.Readings.{name-length, name-first, name-others}
 use borrow.Author.Needs.{needs}

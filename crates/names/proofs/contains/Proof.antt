@@ -3,7 +3,8 @@ use Prim.Native.Nat.{_≤_, _-_}
 use mathlib.Core.Path.{_≡_, refl, sym, ap, _∙_}
 use lib.ListN.{length, drop}
 use Rattle.scope.specs.Text.{startsWith, contains}
-use Rattle.names.proofs.Laws.{part, contains-stops, contains-goes, contains-ends}
+use Rattle.letters.proofs.Laws.{part}
+use Rattle.names.proofs.Laws.{contains-stops, contains-goes, contains-ends}
 use borrow.Author.Needs.{needs}
 use native.Mathlib.Omega.{arith}
 use Rattle.names.proofs.contains.Statement.{statement}

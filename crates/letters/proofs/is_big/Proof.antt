@@ -1,10 +1,10 @@
--- `names::is_big` meets its contract, one test after another.
+-- `letters::is_big` meets its contract, one test after another.
 use mathlib.Core.Path.{_∙_, sym}
-use Rattle.names.proofs.Laws.{or-left, or-right}
+use Rattle.letters.proofs.Laws.{or-left, or-right}
 use Rattle.scope.specs.Frames.{isBig}
 use borrow.Author.Needs.{needs}
-use Rattle.names.proofs.is_big.Statement.{statement}
-use Rattle.names.proofs.is_big.Tie as tie
+use Rattle.letters.proofs.is_big.Statement.{statement}
+use Rattle.letters.proofs.is_big.Tie as tie
 
 is-upper-requires : tie.Need-is-upper-requires
 is-upper-requires c κs = search needs

@@ -1,10 +1,10 @@
--- `names::is_small` meets its contract, one test after another.
+-- `letters::is_small` meets its contract, one test after another.
 use mathlib.Core.Path.{_∙_, sym, refl}
-use Rattle.names.proofs.Laws.{or-left, or-right}
+use Rattle.letters.proofs.Laws.{or-left, or-right}
 use Rattle.scope.specs.Frames.{isSmall}
 use borrow.Author.Needs.{needs}
-use Rattle.names.proofs.is_small.Statement.{statement}
-use Rattle.names.proofs.is_small.Tie as tie
+use Rattle.letters.proofs.is_small.Statement.{statement}
+use Rattle.letters.proofs.is_small.Tie as tie
 
 is-lower-requires : tie.Need-is-lower-requires
 is-lower-requires c κs = search needs

@@ -1,10 +1,10 @@
--- `names::is_decimal` meets its contract: by the first byte, a minus, a 0 or another.
+-- `letters::is_decimal` meets its contract: by the first byte, a minus, a 0 or another.
 use mathlib.Core.Path.{sym, _∙_}
-use Rattle.names.proofs.Laws.{decimal-none, decimal-minus, decimal-zero, decimal-plain}
+use Rattle.letters.proofs.Laws.{decimal-none, decimal-minus, decimal-zero, decimal-plain}
 use borrow.Author.Needs.{needs}
 use native.Mathlib.Omega.{arith}
-use Rattle.names.proofs.is_decimal.Statement.{statement}
-use Rattle.names.proofs.is_decimal.Tie as tie
+use Rattle.letters.proofs.is_decimal.Statement.{statement}
+use Rattle.letters.proofs.is_decimal.Tie as tie
 
 returns : tie.Need-returns
 returns c =

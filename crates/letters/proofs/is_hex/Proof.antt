@@ -1,10 +1,10 @@
--- `hex::is_hex` meets its contract, one test after another.
+-- `letters::is_hex` meets its contract, one test after another.
 use mathlib.Core.Path.{_∙_, sym}
-use Rattle.names.proofs.Laws.{or-left, or-right}
+use Rattle.letters.proofs.Laws.{or-left, or-right}
 use Rattle.scope.specs.Lines.{isHex}
 use borrow.Author.Needs.{needs}
-use Rattle.hex.proofs.is_hex.Statement.{statement}
-use Rattle.hex.proofs.is_hex.Tie as tie
+use Rattle.letters.proofs.is_hex.Statement.{statement}
+use Rattle.letters.proofs.is_hex.Tie as tie
 
 among-requires : tie.Need-among-requires
 among-requires c κs = search needs

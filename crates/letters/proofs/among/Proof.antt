@@ -1,9 +1,9 @@
--- `names::among` meets its contract.
+-- `letters::among` meets its contract.
 use borrow.Author.Tests.{lt-leb, le-leb}
-use Rattle.names.proofs.Laws.{and-left, and-right}
+use Rattle.letters.proofs.Laws.{and-left, and-right}
 use mathlib.Core.Path.{refl}
-use Rattle.names.proofs.among.Statement.{statement}
-use Rattle.names.proofs.among.Tie as tie
+use Rattle.letters.proofs.among.Statement.{statement}
+use Rattle.letters.proofs.among.Tie as tie
 
 returns : tie.Need-returns
 returns c =

@@ -1,11 +1,11 @@
--- `names::is_positive` meets its contract: a first byte from 1 to 9, then digits.
+-- `letters::is_positive` meets its contract: a first byte from 1 to 9, then digits.
 use mathlib.Core.Path.{sym, _∙_}
 use borrow.Author.Tests.{not-true, not-false}
-use Rattle.names.proofs.Laws.{and-left, and-right, positive-law, positive-none}
+use Rattle.letters.proofs.Laws.{and-left, and-right, positive-law, positive-none}
 use borrow.Author.Needs.{needs}
 use native.Mathlib.Omega.{arith}
-use Rattle.names.proofs.is_positive.Statement.{statement}
-use Rattle.names.proofs.is_positive.Tie as tie
+use Rattle.letters.proofs.is_positive.Statement.{statement}
+use Rattle.letters.proofs.is_positive.Tie as tie
 
 returns : tie.Need-returns
 returns c =

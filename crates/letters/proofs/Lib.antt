@@ -1,0 +1,2 @@
+-- Laws of tests over a text.
+pub mod Laws
