@@ -1,15 +1,17 @@
 -- Patterns as written, piece by piece, and one after another: what is reached after each, and how many follow. From the laws of one reader after another.
 use mathlib.Core.Path.{_≡_, refl, sym, ap, subst, _∙_}
 use mathlib.Core.List.{List, [], _∷_}
-use mathlib.Core.Bool.{Bool, true, false}
+use mathlib.Core.Bool.{Bool, true, false, cond}
 use Prim.Native.Nat.{ℕ, zero, suc, _+_, _-_, _≤_, _<_}
+use native.Mathlib.Nat.{add-zero}
 use native.Mathlib.Omega.{arith}
-use lib.ListN.{length, getD, drop, List·getD-eq-default, length-drop}
+use lib.ListN.{length, getD, take, drop, List·getD-eq-default, length-drop}
+use lib.Seq.{getD-drop}
 use lib.Dec.{eqb}
 use Rattle.scope.proofs.Tests.{clash}
 use Rattle.scope.proofs.Reading.{patterns-none, patterns-law}
 use Rattle.scope.specs.Lists.{Text, bit, among}
-use Rattle.scope.specs.Patterns.{Raw, variable, assign, number, string, listOf, constructor, tupleOf, inner}
+use Rattle.scope.specs.Patterns.{Raw, variable, assign, number, string, listOf, constructor, inner}
 use Rattle.scope.specs.Frames as scope
 use Rattle.scope.specs.Frames.{fault, found, Reader, andThen, _>>=_, give, byte, within, flag, times, choosing, smallName, isDecimal, text, patternKinds, pattern, patternsIn, patterns}
 use Rattle.fields.specs.declared.Read.{Read}
@@ -17,22 +19,15 @@ use Rattle.fields.specs.declared.Read.the-variants.{At, Fault}
 use Rattle.clause.specs.declared.Pattern.{Pattern}
 use Rattle.clause.specs.declared.Pattern as code
 use Rattle.fields.specs.Places.{placed, readAt}
-use Rattle.clause.specs.Written.{nothing, placedPattern, patternAt, leaving, leaves}
-use Rattle.fields.proofs.Readers.{Tail, Left, Keeps, give-keeps, fault-keeps, byte-keeps, passing-keeps, bind-keeps, judging-keeps, times-keeps, Every, choosing-keeps, give-stays, goes-on, found-at, place-back, tail-tail, tail-place, tail-length, drop-tail, any, byte-reads, Passed, Skipped, bind-bind, chosen, chosen-none}
+use Rattle.clause.specs.Written.{flagged, nothing, placedPattern, patternAt, leaving, leaves}
+use Rattle.fields.proofs.Readers.{Tail, Left, Keeps, give-keeps, fault-keeps, byte-keeps, passing-keeps, bind-keeps, judging-keeps, times-keeps, Every, choosing-keeps, fault-stays, give-stays, goes-on, found-at, place-back, tail-tail, tail-place, tail-length, drop-tail, Skipped, chosen, chosen-none}
 use Rattle.fields.proofs.Readings.{name-keeps, flag-bit, flag-keeps}
-use Rattle.letters.proofs.Laws.{left}
 
 -- what was read leaves as many as what is made of it
 pub leaving-give : {A : Type 0} (n : ℕ) (x : scope.Read A) (f : A → Raw) (k : ℕ) → ((a : A) → inner (f a) ≡ k) → leaving k (placed n x) ≡ placedPattern n (andThen x (λ a. give (f a)))
 unfolding placed placedPattern
 leaving-give n (fault rest) f k h = refl
 leaving-give n (found a rest) f k h = ap (code.the-variants.At (n - length rest)) (sym (h a))
-
--- a fault leaves none, whatever would be read after it
-pub leaving-fault : {A : Type 0} (n : ℕ) (x : scope.Read A) (f : A → Reader Raw) (c : Read) (q : ℕ) → c ≡ placed n x → c ≡ Fault q → leaving 0 c ≡ placedPattern n (andThen x f)
-unfolding placed placedPattern
-leaving-fault n (fault rest) f c q e h = ap (leaving 0) e
-leaving-fault n (found a rest) f c q e h = clash (cc)
 
 leaves-most : (k : ℕ) (c : Read) → leaves (leaving k c) ≤ k
 leaves-most k (At q) = omega arith
@@ -41,94 +36,82 @@ leaves-most k (Fault q) = omega arith
 pub few-left : (k : ℕ) (r : Pattern) (c : Read) → k ≤ 256 → r ≡ leaving k c → leaves r ≤ 256
 few-left k r c h e = omega (arith, ap leaves e, leaves-most k c)
 
-pub none-left : (r : Pattern) (c : Read) → r ≡ leaving 0 c → leaves r ≤ 256
-none-left r c e = few-left 0 r c (omega arith) e
-
 -- a pattern that was found, by its place
 pub found-pattern : (bytes : List ℕ) (q : ℕ) (p : Raw) → q ≤ length bytes → code.the-variants.At q (inner p) ≡ placedPattern (length bytes) (found p (drop q bytes))
 unfolding placedPattern
 found-pattern bytes q p h = ap (λ (k : ℕ). code.the-variants.At k (inner p)) (sym (place-back bytes q h))
 
--- after what was found the next reader begins there
-pattern-on : {A : Type 0} (r : Reader A) (f : A → Reader Raw) (bytes : List ℕ) (at q : ℕ) (a : A) → r (drop at bytes) ≡ found a (drop q bytes) → patternAt bytes q (f a) ≡ patternAt bytes at (r >>= f)
-pattern-on r f bytes at q a e = sym (ap (λ (y : scope.Read _). placedPattern (length bytes) (andThen y f)) e)
+-- n bytes, then a flag
+module _ (n : ℕ) (bytes : List ℕ) (at : ℕ) (c : Read) where
+  pub flagged-short : (q : ℕ) → c ≡ readAt bytes at (times n byte) → c ≡ Fault q → c ≡ readAt bytes at (flagged n)
+  flagged-short q e f = fault-stays (length bytes) (times n byte (drop at bytes)) (λ bs. within 0 1) c q e f
 
--- 00 or 01, then a pattern that goes by it
-module _ (f : Bool → Raw) (bytes : List ℕ) (at : ℕ) where
-  flag-fault : (c : Read) (q : ℕ) → c ≡ readAt bytes at (within 0 1) → c ≡ Fault q → leaving 0 c ≡ patternAt bytes at (flag >>= λ b. give (f b))
-  flag-fault c q e h =
-      leaving-fault (length bytes) (within 0 1 (drop at bytes)) (λ b. give (f (eqb b 1))) c q e h
-      ∙ ap (placedPattern (length bytes)) (sym (bind-bind (within 0 1 (drop at bytes)) (λ b. give (eqb b 1)) (λ b. give (f b))))
+  pub flagged-on : (q : ℕ) → Skipped n bytes at q → c ≡ readAt bytes q (within 0 1) → c ≡ readAt bytes at (flagged n)
+  flagged-on q s e = e ∙ sym (goes-on (times n byte) (λ bs. within 0 1) bytes at q (take n (drop at bytes)) (s .reads))
 
-  flag-found : (q : ℕ) → Passed (among 0 1) bytes at q → code.the-variants.At q (inner (f (eqb (getD bytes at 0) 1))) ≡ patternAt bytes at (flag >>= λ b. give (f b))
-  flag-found q x =
-      found-pattern bytes q (f (eqb (getD bytes at 0) 1)) (omega (arith, x .next, x .inside))
-      ∙ sym (ap (λ (y : scope.Read ℕ). placedPattern (length bytes) (andThen (andThen y (λ b. give (eqb b 1))) (λ b. give (f b)))) (x .reads))
-
--- a list
-module _ (bytes : List ℕ) (at : ℕ) where
-  pub list-count : (c : Read) (q : ℕ) → c ≡ readAt bytes at byte → c ≡ Fault q → leaving 0 c ≡ patternAt bytes at (getD patternKinds 5 nothing)
-  list-count c q e h = leaving-fault (length bytes) (byte (drop at bytes)) (λ k. flag >>= λ tail. give (listOf k tail)) c q e h
-
-  pub list-tail : (c : Read) (q p : ℕ) → Passed any bytes at q → c ≡ readAt bytes q (within 0 1) → c ≡ Fault p → leaving 0 c ≡ patternAt bytes at (getD patternKinds 5 nothing)
-  list-tail c q p x e h =
-      flag-fault (listOf (getD bytes at 0)) bytes q c p e h
-      ∙ pattern-on byte (λ k. flag >>= λ tail. give (listOf k tail)) bytes at q (getD bytes at 0) (byte-reads bytes at q x)
-
-  pub list-found : (q p k t : ℕ) → Passed any bytes at q → Passed (among 0 1) bytes q p → k ≡ getD bytes at 0 → t ≡ getD bytes q 0 → code.the-variants.At p (k + t) ≡ patternAt bytes at (getD patternKinds 5 nothing)
-  list-found q p k t x y m n =
-      let s : k + t ≡ getD bytes at 0 + bit (eqb (getD bytes q 0) 1) = omega (arith, flag-bit (getD bytes q 0) (y .passes)) in
-      ap (code.the-variants.At p) s
-      ∙ flag-found (listOf (getD bytes at 0)) bytes q p y
-      ∙ pattern-on byte (λ k. flag >>= λ tail. give (listOf k tail)) bytes at q (getD bytes at 0) (byte-reads bytes at q x)
-
--- a tuple
-module _ (bytes : List ℕ) (at : ℕ) where
-  pub tuple-count : (c : Read) (q : ℕ) → c ≡ readAt bytes at byte → c ≡ Fault q → leaving 0 c ≡ patternAt bytes at (getD patternKinds 8 nothing)
-  tuple-count c q e h = leaving-fault (length bytes) (byte (drop at bytes)) (λ k. give (tupleOf k)) c q e h
-
-  pub tuple-found : (q k : ℕ) → Passed any bytes at q → k ≡ getD bytes at 0 → code.the-variants.At q k ≡ patternAt bytes at (getD patternKinds 8 nothing)
-  tuple-found q k x m =
-      ap (code.the-variants.At q) m
-      ∙ found-pattern bytes q (tupleOf (getD bytes at 0)) (omega (arith, x .next, x .inside))
-      ∙ pattern-on byte (λ k. give (tupleOf k)) bytes at q (getD bytes at 0) (byte-reads bytes at q x)
-
--- two bytes, then a reader that goes by them
-abbrev afterTwo : (ℕ → ℕ → Reader Raw) → Reader Raw
-afterTwo f = byte >>= λ a. byte >>= λ b. f a b
-
-two-fault : (f : ℕ → ℕ → Reader Raw) (n : ℕ) (bs : List ℕ) (c : Read) (q : ℕ) → c ≡ placed n (times 2 byte bs) → c ≡ Fault q → leaving 0 c ≡ placedPattern n (afterTwo f bs)
+-- a list leaves its count, and one more where the flag says a tail
+list-is : (n : ℕ) (bs : List ℕ) → leaving (getD bs 0 0 + getD bs 1 0) (placed n (flagged 1 bs)) ≡ placedPattern n (getD patternKinds 5 nothing bs)
 unfolding placed placedPattern
-two-fault f n [] c q e h = ap (leaving 0) e
-two-fault f n (x ∷ []) c q e h = ap (leaving 0) e
-two-fault f n (x ∷ y ∷ bs) c q e h = clash (cc)
+list-is n [] = refl
+list-is n (k ∷ []) = refl
+list-is n (k ∷ b ∷ bs) = go (among 0 1 b) refl
+  where
+    go : (x : Bool) → among 0 1 b ≡ x → leaving (k + b) (placed n (cond x (found b bs) (fault (b ∷ bs)))) ≡ placedPattern n (andThen (andThen (cond x (found b bs) (fault (b ∷ bs))) (λ y. give (eqb y 1))) (λ tail. give (listOf k tail)))
+    go true h = ap (λ (j : ℕ). code.the-variants.At (n - length bs) (k + j)) (sym (flag-bit b h))
+    go false h = refl
 
-two-on : (f : ℕ → ℕ → Reader Raw) (bytes : List ℕ) (at q : ℕ) → Skipped 2 bytes at q → afterTwo f (drop at bytes) ≡ f (getD bytes at 0) (getD bytes (at + 1) 0) (drop q bytes)
-two-on f bytes at q s =
-    let k : at + 1 + 1 ≡ q = omega (arith, s .next) in
-    ap (afterTwo f) (left bytes at (omega (arith, s .next, s .inside)))
-    ∙ ap (byte >>= f (getD bytes at 0)) (left bytes (at + 1) (omega (arith, s .next, s .inside)))
-    ∙ ap (λ (j : ℕ). f (getD bytes at 0) (getD bytes (at + 1) 0) (drop j bytes)) k
+list-most : (n : ℕ) (bs : List ℕ) → getD bs 0 0 ≤ 255 → leaves (placedPattern n (getD patternKinds 5 nothing bs)) ≤ 256
+unfolding placedPattern
+list-most n [] h = omega arith
+list-most n (k ∷ []) h = omega arith
+list-most n (k ∷ b ∷ bs) h = go (among 0 1 b)
+  where
+    less : (x : Bool) → k + bit x ≤ 256
+    less true = omega arith
+    less false = omega arith
 
--- a constructor
-module _ (bytes : List ℕ) (at : ℕ) where
-  -- what comes after its number and its count
-  abbrev spreading : ℕ → ℕ → Reader Raw
-  spreading c k = flag >>= λ spread. give (constructor c k spread)
+    go : (x : Bool) → leaves (placedPattern n (andThen (andThen (cond x (found b bs) (fault (b ∷ bs))) (λ y. give (eqb y 1))) (λ tail. give (listOf k tail)))) ≤ 256
+    go true = less (eqb b 1)
+    go false = omega arith
 
-  pub ctor-counts : (c : Read) (q : ℕ) → c ≡ readAt bytes at (times 2 byte) → c ≡ Fault q → leaving 0 c ≡ patternAt bytes at (getD patternKinds 6 nothing)
-  ctor-counts c q e h = two-fault spreading (length bytes) (drop at bytes) c q e h
+-- a constructor leaves its count of arguments
+ctor-is : (n : ℕ) (bs : List ℕ) → leaving (getD bs 1 0) (placed n (flagged 2 bs)) ≡ placedPattern n (getD patternKinds 6 nothing bs)
+unfolding placed placedPattern
+ctor-is n [] = refl
+ctor-is n (c ∷ []) = refl
+ctor-is n (c ∷ k ∷ []) = refl
+ctor-is n (c ∷ k ∷ b ∷ bs) = go (among 0 1 b)
+  where
+    go : (x : Bool) → leaving k (placed n (cond x (found b bs) (fault (b ∷ bs)))) ≡ placedPattern n (andThen (andThen (cond x (found b bs) (fault (b ∷ bs))) (λ y. give (eqb y 1))) (λ spread. give (constructor c k spread)))
+    go true = refl
+    go false = refl
 
-  pub ctor-spread : (c : Read) (q p : ℕ) → Skipped 2 bytes at q → c ≡ readAt bytes q (within 0 1) → c ≡ Fault p → leaving 0 c ≡ patternAt bytes at (getD patternKinds 6 nothing)
-  ctor-spread c q p s e h =
-      flag-fault (constructor (getD bytes at 0) (getD bytes (at + 1) 0)) bytes q c p e h
-      ∙ sym (ap (placedPattern (length bytes)) (two-on spreading bytes at q s))
+-- a tuple leaves its count
+tuple-is : (n : ℕ) (bs : List ℕ) → leaving (getD bs 0 0) (placed n (byte bs)) ≡ placedPattern n (getD patternKinds 8 nothing bs)
+unfolding placed placedPattern
+tuple-is n [] = refl
+tuple-is n (k ∷ bs) = refl
 
-  pub ctor-found : (q p k : ℕ) → Skipped 2 bytes at q → Passed (among 0 1) bytes q p → k ≡ getD bytes (at + 1) 0 → code.the-variants.At p k ≡ patternAt bytes at (getD patternKinds 6 nothing)
-  ctor-found q p k s y m =
-      ap (code.the-variants.At p) m
-      ∙ flag-found (constructor (getD bytes at 0) (getD bytes (at + 1) 0)) bytes q p y
-      ∙ sym (ap (placedPattern (length bytes)) (two-on spreading bytes at q s))
+-- Each from its place in the bytes on
+module _ (bytes : List ℕ) (at k : ℕ) (c : Read) (r : Pattern) (said : r ≡ leaving k c) where
+  first-is : getD (drop at bytes) 0 0 ≡ getD bytes at 0
+  first-is = getD-drop at bytes 0 0 ∙ ap (λ (i : ℕ). getD bytes i 0) (add-zero at)
+
+  pub list-read : (j : ℕ) → k ≡ getD bytes at 0 + j → j ≡ getD bytes (at + 1) 0 → c ≡ readAt bytes at (flagged 1) → r ≡ patternAt bytes at (getD patternKinds 5 nothing)
+  list-read j a b e =
+      let m : k ≡ getD (drop at bytes) 0 0 + getD (drop at bytes) 1 0 = omega (arith, first-is, getD-drop at bytes 1 0) in
+      said ∙ ap (λ (i : ℕ). leaving i c) m ∙ ap (leaving (getD (drop at bytes) 0 0 + getD (drop at bytes) 1 0)) e ∙ list-is (length bytes) (drop at bytes)
+
+  pub ctor-read : k ≡ getD bytes (at + 1) 0 → c ≡ readAt bytes at (flagged 2) → r ≡ patternAt bytes at (getD patternKinds 6 nothing)
+  ctor-read m e = said ∙ ap (λ (i : ℕ). leaving i c) (m ∙ sym (getD-drop at bytes 1 0)) ∙ ap (leaving (getD (drop at bytes) 1 0)) e ∙ ctor-is (length bytes) (drop at bytes)
+
+  pub tuple-read : k ≡ getD bytes at 0 → c ≡ readAt bytes at byte → r ≡ patternAt bytes at (getD patternKinds 8 nothing)
+  tuple-read m e = said ∙ ap (λ (i : ℕ). leaving i c) (m ∙ sym first-is) ∙ ap (leaving (getD (drop at bytes) 0 0)) e ∙ tuple-is (length bytes) (drop at bytes)
+
+pub list-few : (bytes : List ℕ) (at : ℕ) (r : Pattern) → getD bytes at 0 ≤ 255 → r ≡ patternAt bytes at (getD patternKinds 5 nothing) → leaves r ≤ 256
+list-few bytes at r h e =
+    let f : getD (drop at bytes) 0 0 ≡ getD bytes at 0 = getD-drop at bytes 0 0 ∙ ap (λ (i : ℕ). getD bytes i 0) (add-zero at) in
+    omega (arith, ap leaves e, list-most (length bytes) (drop at bytes) (omega arith))
 
 -- A pattern, by its first byte
 pub pattern-end : (bytes : List ℕ) (at : ℕ) → at ≤ length bytes → length bytes ≤ at → code.the-variants.Fault at ≡ patternAt bytes at pattern

@@ -4,11 +4,15 @@ use Prim.Native.Nat.{ℕ, _-_}
 use lib.ListN.{length, drop}
 use Rattle.scope.specs.Patterns.{Raw, inner}
 use Rattle.scope.specs.Frames as scope
-use Rattle.scope.specs.Frames.{fault, found, Reader}
+use Rattle.scope.specs.Frames.{fault, found, Reader, _>>=_, byte, within, times}
 use Rattle.fields.specs.declared.Read.{Read}
 use Rattle.fields.specs.declared.Read.the-variants.{At, Fault}
 use Rattle.clause.specs.declared.Pattern.{Pattern}
 use Rattle.clause.specs.declared.Pattern as pattern
+
+-- n bytes, then 00 or 01
+abbrev pub flagged : ℕ → Reader ℕ
+flagged n = do bs ← times n byte; within 0 1
 
 -- past the patterns that there are: a fault
 abbrev pub nothing : Reader Raw

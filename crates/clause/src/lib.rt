@@ -4,7 +4,8 @@ ghost use Prim.Native.Nat.{_+_, _*_, _≤_, _<_, _^_};
 ghost use lib.ListN.{length, getD};
 ghost use Rattle.scope.specs.Frames.{patternKinds, pattern, patterns};
 ghost use Rattle.fields.specs.Places.{readAt};
-ghost use Rattle.clause.specs.Written.{nothing, patternAt, leaving, leaves};
+ghost use Rattle.clause.specs.Written.{flagged, nothing, patternAt, leaving, leaves};
+use cells::at8;
 use cells::wide8;
 use fields::Read;
 use fields::byte;
@@ -29,24 +30,26 @@ fn leaving(r: Read, k: usize) -> Pattern
     }
 }
 
+// n bytes, then 00 or 01.
+fn flagged(bytes: &[u8], at: usize, n: usize) -> Read
+    requires { ⌜ at ≤ length (now bytes) ⌝ }
+    ensures { λ r. ⌜ r ≡ readAt (now (bytes .entry)) at (flagged n) ⌝ }
+{
+    let t = skip(bytes, at, n);
+    let Read::At(from) = t else {
+        return t;
+    };
+    within(bytes, from, 0, 1)
+}
+
 // A list: element count, tail 00 or 01.
 fn list_pattern(bytes: &[u8], at: usize) -> Pattern
     requires { ⌜ at ≤ length (now bytes) ⌝ }
     ensures { λ r. ⌜ r ≡ patternAt (now (bytes .entry)) at (getD patternKinds 5 nothing) ⌝ }
     ensures { λ r. ⌜ leaves r ≤ 256 ⌝ }
 {
-    let n = byte(bytes, at);
-    let Read::At(from) = n else {
-        return leaving(n, 0);
-    };
-    let f = within(bytes, from, 0, 1);
-    let Read::At(next) = f else {
-        return leaving(f, 0);
-    };
-    Pattern::At {
-        next,
-        inner: wide8(bytes[at]) + wide8(bytes[from]),
-    }
+    let r = flagged(bytes, at, 1);
+    leaving(r, wide8(at8(bytes, at)) + wide8(at8(bytes, at + 1)))
 }
 
 // A constructor: number, argument count, spread 00 or 01.
@@ -55,18 +58,8 @@ fn constructor_pattern(bytes: &[u8], at: usize) -> Pattern
     ensures { λ r. ⌜ r ≡ patternAt (now (bytes .entry)) at (getD patternKinds 6 nothing) ⌝ }
     ensures { λ r. ⌜ leaves r ≤ 256 ⌝ }
 {
-    let n = skip(bytes, at, 2);
-    let Read::At(from) = n else {
-        return leaving(n, 0);
-    };
-    let f = within(bytes, from, 0, 1);
-    let Read::At(next) = f else {
-        return leaving(f, 0);
-    };
-    Pattern::At {
-        next,
-        inner: wide8(bytes[at + 1]),
-    }
+    let r = flagged(bytes, at, 2);
+    leaving(r, wide8(at8(bytes, at + 1)))
 }
 
 // A tuple: its count.
@@ -75,14 +68,8 @@ fn tuple_pattern(bytes: &[u8], at: usize) -> Pattern
     ensures { λ r. ⌜ r ≡ patternAt (now (bytes .entry)) at (getD patternKinds 8 nothing) ⌝ }
     ensures { λ r. ⌜ leaves r ≤ 256 ⌝ }
 {
-    let n = byte(bytes, at);
-    let Read::At(next) = n else {
-        return leaving(n, 0);
-    };
-    Pattern::At {
-        next,
-        inner: wide8(bytes[at]),
-    }
+    let r = byte(bytes, at);
+    leaving(r, wide8(at8(bytes, at)))
 }
 
 // One pattern as written, without its inner ones.

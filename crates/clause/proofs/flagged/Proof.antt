@@ -1,0 +1,35 @@
+-- `clause::flagged` meets its contract: the bytes, then the flag.
+use Rattle.fields.proofs.Readers.{Skipped, skipped}
+use Rattle.clause.proofs.Written.{flagged-short, flagged-on}
+use borrow.Author.Needs.{needs}
+use Rattle.clause.proofs.flagged.Statement.{statement}
+use Rattle.clause.proofs.flagged.Tie as tie
+
+bytes-read : (c : tie.After-t) → Skipped (c .before .before .before .before .args .n) (c .before .before .before .before .args .bytes .now) (c .before .before .before .before .args .at) (c .t .given .0 .0)
+bytes-read c =
+    skipped (c .before .before .before .before .args .n) (c .before .before .before .before .args .bytes .now) (c .before .before .before .before .args .at) (c .t .given .0 .0) (c .before .before .skip .result) (c .before .before .before .before .pre) (c .before .before .skip .ensures) (c .t .given .1)
+
+skip-requires : tie.Need-skip-requires
+skip-requires c κs = search needs
+
+enum-known-t : tie.Need-enum-known-t
+enum-known-t c = search needs
+
+enum-told : tie.Need-enum-told
+enum-told c = search needs
+
+returns : tie.Need-returns
+returns c =
+    flagged-short (c .before .before .before .before .args .n) (c .before .before .before .before .args .bytes .now) (c .before .before .before .before .args .at) (c .before .before .skip .result) (c .enum-told .given .0 .0) (c .before .before .skip .ensures) (c .enum-told .given .1)
+
+within-requires : tie.Need-within-requires
+within-requires c κs =
+    bytes-read (c .before) .inside
+
+returns-2 : tie.Need-returns-2
+returns-2 c =
+    flagged-on (c .before .before .before .before .before .before .args .n) (c .before .before .before .before .before .before .args .bytes .now) (c .before .before .before .before .before .before .args .at) (c .within .result) (c .before .before .t .given .0 .0) (bytes-read (c .before .before)) (c .within .ensures)
+
+pub flagged-spec : {M : Type 1} → statement M
+flagged-spec =
+    tie.close (tie.spec skip-requires enum-known-t enum-told returns within-requires returns-2)
