@@ -18,7 +18,7 @@ use Rattle.shape.specs.Wholes.{whole}
 use Rattle.shape.proofs.Wholes.{whole-ok, whole-refused}
 use Rattle.frames.specs.declared.Framed.{Framed}
 use Rattle.frames.specs.Lines.{frameOf}
-use Rattle.table.specs.Sound.{isSoundIn}
+use Rattle.sound.specs.Sound.{isSoundIn}
 use Rattle.order.specs.declared.State.{State}
 use Rattle.order.specs.Phases.{standsIn, roomIn}
 use Rattle.entering.specs.Said.{checked}

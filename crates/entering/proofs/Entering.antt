@@ -21,9 +21,9 @@ use Rattle.table.specs.Build.{EndsInData}
 use Rattle.table.proofs.Tables.{data-ends, added-ends}
 use Rattle.table.proofs.TypeMeans.{Room, type-holds}
 use Rattle.table.proofs.CtorMeans.{ctor-holds}
-use Rattle.table.proofs.FreshMeans.{fresh-means}
-use Rattle.table.proofs.SoundMeans.{sound-means}
-use Rattle.table.specs.Sound.{isSoundIn}
+use Rattle.fresh.proofs.FreshMeans.{fresh-means}
+use Rattle.sound.proofs.SoundMeans.{sound-means}
+use Rattle.sound.specs.Sound.{isSoundIn}
 use Rattle.patterns.specs.Rows.{RowAt, Given, Answers, Simplifies}
 use Rattle.patterns.specs.declared.Simplified.{Simplified}
 use Rattle.patterns.specs.declared.Simplified.the-variants.{Row as Kept, Unsuited}

@@ -8,8 +8,8 @@ use lib.Dec.{eqb}
 use Rattle.scope.specs.Frames.{Frame}
 use Rattle.scope.specs.Blocks.{ok, refuse}
 use Rattle.table.specs.Build.{typeFields, WithType, arityIn, WithCtor}
-use Rattle.table.specs.Fresh.{isFreshIn}
-use Rattle.table.specs.Sound.{isSoundIn}
+use Rattle.fresh.specs.Fresh.{isFreshIn}
+use Rattle.sound.specs.Sound.{isSoundIn}
 use Rattle.patterns.specs.Rows.{Simplifies}
 use Rattle.patterns.specs.declared.Simplified.the-variants.{Row as Kept, Unsuited}
 use Rattle.order.specs.declared.State.{State}

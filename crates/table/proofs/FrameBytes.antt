@@ -13,9 +13,9 @@ use Rattle.scope.specs.Types.{Ref, Ctor, Ty, integer, byteString, opaque, list,
 use Rattle.scope.specs.Frames.{found, byte, within, flag, times, smallName, bigName, typeFrame, fieldsFor, constructorFrame}
 use Rattle.scope.proofs.Tests.{clash}
 use Rattle.layout.specs.Types.{textAt}
-use Rattle.table.specs.Places.{places, labelled, reads}
+use Rattle.layout.specs.Places.{places, labelled, reads}
 use Rattle.table.specs.Build.{typeArities, typeFields, flagAt, arityIn, isBare}
-use Rattle.table.proofs.Slices.{reads-part}
+use Rattle.layout.proofs.Slices.{reads-part}
 use Rattle.table.proofs.Reading.{then-found, byte-found, within-found, times-found, flag-found, big-found, small-found}
 
 module _ (bytes : List ℕ) (at : ℕ) where

@@ -7,9 +7,9 @@ use native.Mathlib.Numerals.{add-one}
 use lib.ListN.{length, getD, set}
 use lib.Seq.{sets}
 use borrow.Author.Tests.{ne-eqb}
-use Rattle.table.specs.Places.{places, labelled, reads}
+use Rattle.layout.specs.Places.{places, labelled, reads}
 use Rattle.table.specs.Build.{low, builtArities, typeArities, typeFields, HasCtors, flagAt, arityIn, isBare, fieldPlaces, labelsWith, WithCtor}
-use Rattle.table.proofs.Loops.{length-places, length-map}
+use Rattle.layout.proofs.Loops.{length-places, length-map}
 
 -- two stores, one after another
 pub two : (d d₁ d₂ : List ℕ) (k a b : ℕ) → d₁ ≡ set d k a → d₂ ≡ set d₁ (k + 1) b → d₂ ≡ sets d k (a ∷ b ∷ [])

@@ -7,7 +7,7 @@ use lib.ListN.{length, getD, set, replicate}
 use lib.Seq.{sets}
 use lib.Dec.{eqb}
 use Rattle.scope.specs.Types.{Ctor, dat, Table, builtIns}
-use Rattle.table.specs.Places.{places, labelled, reads}
+use Rattle.layout.specs.Places.{places, labelled, reads}
 
 -- a number as 16 bits hold it
 abbrev pub low : ℕ → ℕ

@@ -1,0 +1,93 @@
+-- `fresh::labels_twice` meets its contract: each label is looked for among those after it.
+use mathlib.Core.Path.{_≡_, refl, sym, _∙_}
+use Prim.Native.Nat.{_+_, _-_, _*_, _≤_}
+use native.Mathlib.Omega.{arith}
+use Rattle.scope.specs.Lists.{twice}
+use Rattle.fresh.specs.Fresh.{labelTexts}
+use Rattle.fresh.proofs.Texts.{labels-step, labels-end, twice-on, twice-off, twice-end}
+use Rattle.fresh.proofs.labels_twice.Statement.{statement}
+use Rattle.fresh.proofs.labels_twice.Tie as tie
+
+abbrev Inv-loop : tie.InvT-loop
+Inv-loop bytes p n q₀ more₀ q more = (more ≤ n) × (q + 257 * more ≤ p + 257 * n) × (twice (labelTexts bytes p n) ≡ twice (labelTexts bytes q more))
+
+abbrev μ-loop : tie.MeasureT-loop
+μ-loop bytes p n q₀ more₀ q more = more
+
+loop-holds : tie.Need-loop-holds Inv-loop μ-loop
+loop-holds c = (omega arith, omega arith, refl)
+
+add-next : tie.Need-add-next Inv-loop μ-loop
+add-next c = omega arith
+
+add-at8 : tie.Need-add-at8 Inv-loop μ-loop
+add-at8 c = omega arith
+
+at8-requires : tie.Need-at8-requires Inv-loop μ-loop
+at8-requires c κs = tt
+
+wide8-requires : tie.Need-wide8-requires Inv-loop μ-loop
+wide8-requires c κs = tt
+
+add-next-2 : tie.Need-add-next-2 Inv-loop μ-loop
+add-next-2 c = omega arith
+
+add-label-there : tie.Need-add-label-there Inv-loop μ-loop
+add-label-there c = omega arith
+
+sub-label-there : tie.Need-sub-label-there Inv-loop μ-loop
+sub-label-there c = omega arith
+
+label-there-requires : tie.Need-label-there-requires Inv-loop μ-loop
+label-there-requires c κs = omega (arith, c .before .before .before .before .before .pre, c .before .at8 .ok, c .wide8 .ensures)
+
+returns : tie.Need-returns Inv-loop μ-loop
+returns c =
+    let a = c .before .before .before .before .before .before .before .args in
+    let l = c .before .before .before .before .before .loop in
+    let at8 = c .before .before .before .at8 in
+    let wide8 = c .before .before .wide8 in
+    let step = labels-step (a .bytes .now) (l .q) (l .more) (l .more - 1) (wide8 .result) (omega arith) (wide8 .ensures ∙ at8 .ensures) in
+    sym (l .inv .2 ∙ twice-off _ _ _ step (sym (c .before .label-there .ensures) ∙ c .if1 .taken))
+
+sub-more : tie.Need-sub-more Inv-loop μ-loop
+sub-more c = omega arith
+
+loop-less : tie.Need-loop-less Inv-loop μ-loop
+loop-less c = omega arith
+
+loop-again : tie.Need-loop-again Inv-loop μ-loop
+loop-again c =
+    let a = c .before .before .before .before .before .before .before .args in
+    let l = c .before .before .before .before .before .loop in
+    let at8 = c .before .before .before .at8 in
+    let wide8 = c .before .before .wide8 in
+    let step = labels-step (a .bytes .now) (l .q) (l .more) (l .more - 1) (wide8 .result) (omega arith) (wide8 .ensures ∙ at8 .ensures) in
+    (omega arith, omega arith, l .inv .2 ∙ twice-on _ _ _ step (sym (c .before .label-there .ensures) ∙ c .if1 .left))
+
+returns-2 : tie.Need-returns-2 Inv-loop μ-loop
+returns-2 c =
+    let a = c .before .before .before .args in
+    let l = c .before .loop in
+    sym (l .inv .2 ∙ twice-end _ (labels-end (a .bytes .now) (l .q) (l .more) (omega arith)))
+
+pub labels-twice-spec : {M : Type 1} → statement M
+labels-twice-spec =
+    tie.close
+    (tie.spec
+    Inv-loop
+    μ-loop
+    loop-holds
+    add-next
+    add-at8
+    at8-requires
+    wide8-requires
+    add-next-2
+    add-label-there
+    sub-label-there
+    label-there-requires
+    returns
+    sub-more
+    loop-less
+    loop-again
+    returns-2)

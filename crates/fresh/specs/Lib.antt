@@ -1,0 +1,2 @@
+-- What is asked of the slices at a constructor's line.
+pub mod Fresh

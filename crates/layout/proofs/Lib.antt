@@ -1,0 +1,3 @@
+-- Laws of places in slices.
+pub mod Loops
+pub mod Slices
