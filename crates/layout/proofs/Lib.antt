@@ -1,3 +1,4 @@
--- Laws of places in slices.
+-- Laws of places in slices, and of the names that stand there.
 pub mod Loops
 pub mod Slices
+pub mod Texts

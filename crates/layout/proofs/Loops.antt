@@ -3,7 +3,6 @@ use mathlib.Core.Path.{_≡_, refl, ap}
 use mathlib.Core.List.{List, [], _∷_, map}
 use mathlib.Core.Bool.{Bool, true, false}
 use Prim.Native.Nat.{ℕ, zero, suc, _+_, _-_, _≤_, _<_}
-use native.Mathlib.Nat.{add-zero, sub-zero}
 use native.Mathlib.Omega.{arith}
 use native.Mathlib.Numerals.{add-one}
 use lib.ListN.{length, getD, set}
@@ -25,21 +24,25 @@ pub places-next : (i n : ℕ) → i < n → places i (n - i) ≡ i ∷ places (i
 unfolding places
 places-next i n h = rw (left-suc i n h, add-one i)
 
+pub places-on : (p n m : ℕ) → n ≡ suc m → places p n ≡ p ∷ places (p + 1) m
+unfolding places
+places-on p n m h = rw (h, add-one p)
+
 pub places-end : (at i n : ℕ) → n ≤ i → places at (n - i) ≡ []
 unfolding places
 places-end at i n h = rw (left-none i n h)
 
-pub labelled-step : (bytes : List ℕ) (p n m w : ℕ) → n ≡ suc m → w ≡ getD bytes (p + 1) 0 → labelled bytes p n ≡ p ∷ labelled bytes (p + 2 + w) m
+pub labelled-step : (bytes : List ℕ) (p q n m : ℕ) → n ≡ suc m → q ≡ p + 1 + 1 + getD bytes (p + 1) 0 → labelled bytes p n ≡ p ∷ labelled bytes q m
 unfolding labelled
-labelled-step bytes p n m w h e = rw (h, e)
+labelled-step bytes p q n m h e = let f : p + 2 + getD bytes (p + 1) 0 ≡ q = omega arith in rw (h, f)
 
 pub labelled-end : (bytes : List ℕ) (p n : ℕ) → n ≤ 0 → labelled bytes p n ≡ []
 unfolding labelled
 labelled-end bytes p n h = let z : n ≡ 0 = omega arith in rw z
 
 -- before the first store
-pub run-start : (f : ℕ → ℕ) (d : List ℕ) (from : ℕ) (ps : ℕ → List ℕ) (n : ℕ) → sets d (from + 0) (map f (ps (n - 0))) ≡ sets d from (map f (ps n))
-run-start f d from ps n = rw (add-zero from, sub-zero n)
+pub run-start : (f : ℕ → ℕ) (d : List ℕ) (from : ℕ) (ps : ℕ → List ℕ) (n : ℕ) → sets d from (map f (ps (from + n - from))) ≡ sets d from (map f (ps n))
+run-start f d from ps n = let e : from + n - from ≡ n = omega arith in rw e
 
 module _ {A : Type 0} (f : ℕ → A) (d : List A) where
   -- one store of a run, then what is left of it

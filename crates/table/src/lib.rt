@@ -3,13 +3,14 @@ use cells::at8;
 use cells::put8;
 use cells::put16;
 use cells::wide8;
+use layout::after_name;
 ghost use mathlib.Core.Path.{_≡_};
-ghost use mathlib.Core.List.{[], _∷_, map};
+ghost use mathlib.Core.List.{map};
 ghost use Prim.Native.Nat.{_+_, _-_, _*_, _<_, _≤_, _^_};
-ghost use lib.ListN.{length, getD, set};
+ghost use lib.ListN.{length, getD, set, replicate};
 ghost use lib.Seq.{sets};
 ghost use Rattle.layout.specs.Places.{places, labelled, reads};
-ghost use Rattle.table.specs.Build.{low, builtArities, typeFields, HasCtors, WithType, arityIn, fieldPlaces, labelsWith, WithCtor};
+ghost use Rattle.table.specs.Build.{low, typeArities, typeFields, WithType, arityIn, fieldPlaces, labelsWith, WithCtor};
 
 pub struct Sizes {
     pub types: usize,
@@ -20,27 +21,79 @@ pub struct Sizes {
 // The arities of the built-in constructors of a list: "::" with 2, "[]" with 0.
 pub const BUILT_IN: [u8; 2] = [2, 0];
 
-// n field types, from `at` on, written to `fields` from `from` on.
-fn put_fields(bytes: &[u8], at: usize, n: usize, fields: &mut [u8], from: usize)
+// n field types, from `at` on, written to `fields` from `from` on; the place after them.
+fn put_fields(bytes: &[u8], at: usize, n: usize, fields: &mut [u8], from: usize) -> usize
     requires { ⌜ at + n < 2 ^ 63 ⌝ }
     requires { ⌜ from + n < 2 ^ 63 ⌝ }
+    ensures { λ r. ⌜ r ≡ from + n ⌝ }
     ensures { λ _. ⌜ now (fields .exit) ≡ sets (now (fields .entry)) from (reads (now (bytes .entry)) (places at n)) ⌝ }
 {
-    let mut i = 0;
-    while i < n {
-        put8(fields, from + i, at8(bytes, at + i));
-        i += 1;
+    let end = from + n;
+    let mut k = from;
+    let mut p = at;
+    while k < end {
+        k = put8(fields, k, at8(bytes, p));
+        p += 1;
     }
+    k
 }
 
-// Constructor number i has this arity, and its fields stand from `from` on.
-fn put_ctor(arities: &mut [u8], starts: &mut [u16], i: usize, arity: u8, from: usize)
-    requires { ⌜ i < 2 ^ 63 ⌝ }
-    ensures { λ _. ⌜ now (arities .exit) ≡ set (now (arities .entry)) i arity ⌝ }
-    ensures { λ _. ⌜ now (starts .exit) ≡ set (now (starts .entry)) i (low from) ⌝ }
+// The arities of the constructors that a type has before any is declared, from number i on; how many they are.
+fn put_arities(bytes: &[u8], at: usize, arities: &mut [u8], i: usize) -> u8
+    requires { ⌜ at < 2 ^ 32 ⌝ }
+    requires { ⌜ i < 2 ^ 32 ⌝ }
+    ensures { λ r. ⌜ r ≡ length (typeArities (now (bytes .entry)) at) ⌝ }
+    ensures { λ _. ⌜ now (arities .exit) ≡ sets (now (arities .entry)) i (typeArities (now (bytes .entry)) at) ⌝ }
 {
-    put8(arities, i, arity);
-    put16(starts, i, (from % 65536) as u16);
+    let kind = at8(bytes, at);
+    if kind == 3 {
+        let next = put8(arities, i, BUILT_IN[0]);
+        put8(arities, next, BUILT_IN[1]);
+        return 2;
+    }
+    if kind == 4 {
+        put8(arities, i, at8(bytes, at + 1));
+        return 1;
+    }
+    if kind == 5 {
+        put8(arities, i, 2);
+        return 1;
+    }
+    0
+}
+
+// The fields of those constructors, of the type t, written from `from` on; the place after them.
+fn put_types(bytes: &[u8], at: usize, t: usize, fields: &mut [u8], from: usize) -> usize
+    requires { ⌜ at < 2 ^ 32 ⌝ }
+    requires { ⌜ t < 64 ⌝ }
+    requires { ⌜ from < 2 ^ 32 ⌝ }
+    ensures { λ r. ⌜ r ≡ from + length (typeFields (now (bytes .entry)) at t) ⌝ }
+    ensures { λ _. ⌜ now (fields .exit) ≡ sets (now (fields .entry)) from (typeFields (now (bytes .entry)) at t) ⌝ }
+{
+    let kind = at8(bytes, at);
+    if kind == 3 {
+        let next = put8(fields, from, at8(bytes, at + 1));
+        return put8(fields, next, (t % 256) as u8);
+    }
+    if kind == 4 {
+        return put_fields(bytes, at + 2, wide8(at8(bytes, at + 1)), fields, from);
+    }
+    if kind == 5 {
+        return put_fields(bytes, at + 1, 2, fields, from);
+    }
+    from
+}
+
+// n constructors, from number i on, whose fields all begin at `from`.
+fn put_starts(starts: &mut [u16], i: usize, n: usize, from: usize)
+    requires { ⌜ i + n < 2 ^ 63 ⌝ }
+    ensures { λ _. ⌜ now (starts .exit) ≡ sets (now (starts .entry)) i (replicate n (low from)) ⌝ }
+{
+    let end = i + n;
+    let mut k = i;
+    while k < end {
+        k = put16(starts, k, (from % 65536) as u16);
+    }
 }
 
 // One more type: its frame's bytes from the kind of type on.
@@ -63,135 +116,98 @@ pub fn add_type(
     ensures { λ _. ⌜ WithType (now (bytes .entry)) at (s .types) (s .fields) (now (kinds .entry)) (now (counts .entry)) (now (arities .entry)) (now (starts .entry)) (now (fields .entry)) (now (kinds .exit)) (now (counts .exit)) (now (arities .exit)) (now (starts .exit)) (now (fields .exit)) ⌝ }
 {
     let t = s.types;
-    let used = s.fields;
-    let kind = at8(bytes, at);
-    put8(kinds, t, kind);
-    if kind == 3 {
-        return add_list(bytes, at, s, counts, arities, starts, fields);
-    }
-    if kind == 4 {
-        let n = at8(bytes, at + 1);
-        return add_tuple(bytes, at + 2, n, s, counts, arities, starts, fields);
-    }
-    if kind == 5 {
-        return add_tuple(bytes, at + 1, 2, s, counts, arities, starts, fields);
-    }
-    put8(counts, t, 0);
+    put8(kinds, t, at8(bytes, at));
+    let n = put_arities(bytes, at, arities, 32 * t);
+    put8(counts, t, n);
+    put_starts(starts, 32 * t, wide8(n), s.fields);
+    let end = put_types(bytes, at, t, fields, s.fields);
     Sizes {
         types: t + 1,
         ctors: s.ctors,
-        fields: used,
+        fields: end,
     }
 }
 
-// A list has the two built-in constructors: a cell holds an element and a list.
-fn add_list(
-    bytes: &[u8],
-    at: usize,
-    s: Sizes,
-    counts: &mut [u8],
-    arities: &mut [u8],
-    starts: &mut [u16],
-    fields: &mut [u8],
-) -> Sizes
-    requires { ⌜ at < 2 ^ 32 ⌝ }
-    requires { ⌜ s .types < 64 ⌝ }
-    requires { ⌜ s .fields < 2 ^ 32 ⌝ }
-    ensures { λ r. ⌜ r .types ≡ s .types + 1 ⌝ }
-    ensures { λ r. ⌜ r .ctors ≡ s .ctors ⌝ }
-    ensures { λ r. ⌜ r .fields ≡ s .fields + 2 ⌝ }
-    ensures { λ _. ⌜ HasCtors (s .types) (s .fields) builtArities (getD (now (bytes .entry)) (at + 1) 0 ∷ s .types ∷ []) (now (counts .entry)) (now (arities .entry)) (now (starts .entry)) (now (fields .entry)) (now (counts .exit)) (now (arities .exit)) (now (starts .exit)) (now (fields .exit)) ⌝ }
-{
-    let t = s.types;
-    let used = s.fields;
-    put8(counts, t, 2);
-    put_ctor(arities, starts, 32 * t, BUILT_IN[0], used);
-    put_ctor(arities, starts, 32 * t + 1, BUILT_IN[1], used);
-    put8(fields, used, at8(bytes, at + 1));
-    put8(fields, used + 1, (t % 256) as u8);
-    Sizes {
-        types: t + 1,
-        ctors: s.ctors,
-        fields: used + 2,
-    }
-}
-
-// A tuple or a pair has one constructor of n fields.
-fn add_tuple(
-    bytes: &[u8],
-    at: usize,
-    n: u8,
-    s: Sizes,
-    counts: &mut [u8],
-    arities: &mut [u8],
-    starts: &mut [u16],
-    fields: &mut [u8],
-) -> Sizes
-    requires { ⌜ at < 2 ^ 33 ⌝ }
-    requires { ⌜ s .types < 64 ⌝ }
-    requires { ⌜ s .fields < 2 ^ 32 ⌝ }
-    ensures { λ r. ⌜ r .types ≡ s .types + 1 ⌝ }
-    ensures { λ r. ⌜ r .ctors ≡ s .ctors ⌝ }
-    ensures { λ r. ⌜ r .fields ≡ s .fields + n ⌝ }
-    ensures { λ _. ⌜ HasCtors (s .types) (s .fields) (n ∷ []) (reads (now (bytes .entry)) (places at n)) (now (counts .entry)) (now (arities .entry)) (now (starts .entry)) (now (fields .entry)) (now (counts .exit)) (now (arities .exit)) (now (starts .exit)) (now (fields .exit)) ⌝ }
-{
-    let t = s.types;
-    let used = s.fields;
-    put8(counts, t, 1);
-    put_ctor(arities, starts, 32 * t, n, used);
-    put_fields(bytes, at, wide8(n), fields, used);
-    Sizes {
-        types: t + 1,
-        ctors: s.ctors,
-        fields: used + wide8(n),
-    }
-}
-
-// n fields with labels: types to `fields`, the places of the labels to `labels`.
-fn put_labelled(
-    bytes: &[u8],
-    at: usize,
-    n: usize,
-    fields: &mut [u8],
-    labels: &mut [u16],
-    from: usize,
-)
+// n fields with labels, from `at` on: their types, written to `fields` from `from` on; the place after them.
+fn put_labelled(bytes: &[u8], at: usize, n: usize, fields: &mut [u8], from: usize) -> usize
     requires { ⌜ at < 2 ^ 33 ⌝ }
     requires { ⌜ n < 256 ⌝ }
     requires { ⌜ from < 2 ^ 32 ⌝ }
+    ensures { λ r. ⌜ r ≡ from + n ⌝ }
     ensures { λ _. ⌜ now (fields .exit) ≡ sets (now (fields .entry)) from (reads (now (bytes .entry)) (labelled (now (bytes .entry)) at n)) ⌝ }
+{
+    let end = from + n;
+    let mut k = from;
+    let mut p = at;
+    while k < end {
+        k = put8(fields, k, at8(bytes, p));
+        p = after_name(bytes, p + 1);
+    }
+    k
+}
+
+// And the places of their labels, written to `labels`.
+fn put_labels(bytes: &[u8], at: usize, n: usize, labels: &mut [u16], from: usize)
+    requires { ⌜ at < 2 ^ 33 ⌝ }
+    requires { ⌜ n < 256 ⌝ }
+    requires { ⌜ from < 2 ^ 32 ⌝ }
     ensures { λ _. ⌜ now (labels .exit) ≡ sets (now (labels .entry)) from (map (λ p. low (p + 1)) (labelled (now (bytes .entry)) at n)) ⌝ }
 {
-    let mut i = 0;
+    let end = from + n;
+    let mut k = from;
     let mut p = at;
-    while i < n {
-        put8(fields, from + i, at8(bytes, p));
-        put16(labels, from + i, ((p + 1) % 65536) as u16);
-        p = p + 2 + wide8(at8(bytes, p + 1));
-        i += 1;
+    while k < end {
+        k = put16(labels, k, ((p + 1) % 65536) as u16);
+        p = after_name(bytes, p + 1);
     }
 }
 
-// n fields from the labels' flag on.
-fn put_parts(
-    bytes: &[u8],
-    flag: usize,
-    n: usize,
-    fields: &mut [u8],
-    labels: &mut [u16],
-    from: usize,
-)
+// A constructor's fields, from the labels' flag on; the place after them.
+fn put_parts(bytes: &[u8], flag: usize, fields: &mut [u8], labels: &mut [u16], from: usize) -> usize
     requires { ⌜ flag < 2 ^ 32 + 512 ⌝ }
-    requires { ⌜ n < 256 ⌝ }
     requires { ⌜ from < 2 ^ 32 ⌝ }
-    ensures { λ _. ⌜ now (fields .exit) ≡ sets (now (fields .entry)) from (reads (now (bytes .entry)) (fieldPlaces (now (bytes .entry)) flag n)) ⌝ }
-    ensures { λ _. ⌜ now (labels .exit) ≡ labelsWith (now (bytes .entry)) flag n from (now (labels .entry)) ⌝ }
+    ensures { λ r. ⌜ r ≡ from + getD (now (bytes .entry)) (flag + 1) 0 ⌝ }
+    ensures { λ _. ⌜ now (fields .exit) ≡ sets (now (fields .entry)) from (reads (now (bytes .entry)) (fieldPlaces (now (bytes .entry)) flag (getD (now (bytes .entry)) (flag + 1) 0))) ⌝ }
+    ensures { λ _. ⌜ now (labels .exit) ≡ labelsWith (now (bytes .entry)) flag (getD (now (bytes .entry)) (flag + 1) 0) from (now (labels .entry)) ⌝ }
 {
+    let n = wide8(at8(bytes, flag + 1));
     if at8(bytes, flag) == 0 {
-        put_fields(bytes, flag + 2, n, fields, from);
-        return;
+        return put_fields(bytes, flag + 2, n, fields, from);
     }
-    put_labelled(bytes, flag + 2, n, fields, labels, from);
+    put_labels(bytes, flag + 2, n, labels, from);
+    put_labelled(bytes, flag + 2, n, fields, from)
+}
+
+// One more constructor of the type t is counted; its number.
+fn count_ctor(counts: &mut [u8], t: usize) -> usize
+    requires { ⌜ t < 64 ⌝ }
+    requires { ⌜ getD (now counts) t 0 < 32 ⌝ }
+    ensures { λ r. ⌜ r ≡ 32 * t + getD (now (counts .entry)) t 0 ⌝ }
+    ensures { λ _. ⌜ now (counts .exit) ≡ set (now (counts .entry)) t (getD (now (counts .entry)) t 0 + 1) ⌝ }
+{
+    let c = at8(counts, t);
+    put8(counts, t, c + 1);
+    32 * t + wide8(c)
+}
+
+// Constructor number i has this arity, its fields stand from `from` on, and its name stands at `at`.
+fn put_ctor(
+    arities: &mut [u8],
+    starts: &mut [u16],
+    names: &mut [u16],
+    i: usize,
+    arity: u8,
+    from: usize,
+    at: usize,
+)
+    requires { ⌜ i < 2 ^ 63 ⌝ }
+    ensures { λ _. ⌜ now (arities .exit) ≡ set (now (arities .entry)) i arity ⌝ }
+    ensures { λ _. ⌜ now (starts .exit) ≡ set (now (starts .entry)) i (low from) ⌝ }
+    ensures { λ _. ⌜ now (names .exit) ≡ set (now (names .entry)) i (low at) ⌝ }
+{
+    put8(arities, i, arity);
+    put16(starts, i, (from % 65536) as u16);
+    put16(names, i, (at % 65536) as u16);
 }
 
 // One more constructor of the last type: its frame's bytes from the name's length on.
@@ -217,19 +233,21 @@ pub fn add_ctor(
     ensures { λ r. ⌜ r .fields ≡ s .fields + arityIn (now (bytes .entry)) at ⌝ }
     ensures { λ _. ⌜ WithCtor (now (bytes .entry)) at (s .types - 1) (s .fields) (now (counts .entry)) (now (arities .entry)) (now (starts .entry)) (now (names .entry)) (now (fields .entry)) (now (labels .entry)) (now (counts .exit)) (now (arities .exit)) (now (starts .exit)) (now (names .exit)) (now (fields .exit)) (now (labels .exit)) ⌝ }
 {
-    let t = s.types - 1;
-    let used = s.fields;
-    let c = at8(counts, t);
-    let i = 32 * t + wide8(c);
-    let with = at + 1 + wide8(at8(bytes, at));
-    let arity = at8(bytes, with + 1);
-    put_ctor(arities, starts, i, arity, used);
-    put16(names, i, (at % 65536) as u16);
-    put8(counts, t, c + 1);
-    put_parts(bytes, with, wide8(arity), fields, labels, used);
+    let i = count_ctor(counts, s.types - 1);
+    let flag = after_name(bytes, at);
+    put_ctor(
+        arities,
+        starts,
+        names,
+        i,
+        at8(bytes, flag + 1),
+        s.fields,
+        at,
+    );
+    let end = put_parts(bytes, flag, fields, labels, s.fields);
     Sizes {
         types: s.types,
         ctors: s.ctors + 1,
-        fields: used + wide8(arity),
+        fields: end,
     }
 }

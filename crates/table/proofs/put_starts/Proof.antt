@@ -1,0 +1,70 @@
+-- `table::put_starts` meets its contract: what is written and what is still to come are the whole run.
+use mathlib.Core.Path.{_≡_, refl, ap, _∙_}
+use Prim.Native.Nat.{_+_, _-_, _≤_}
+use native.Mathlib.Omega.{arith}
+use lib.ListN.{length, replicate}
+use lib.Seq.{sets}
+use Rattle.table.specs.Build.{low}
+use Rattle.table.proofs.Stores.{fill-on, fill-end}
+use Rattle.table.proofs.put_starts.Statement.{statement}
+use Rattle.table.proofs.put_starts.Tie as tie
+
+abbrev Inv-loop : tie.InvT-loop
+Inv-loop starts₀ i n from end k₀ starts k = (i ≤ k) × (k ≤ end) × (length starts ≡ length starts₀) × (sets starts k (replicate (end - k) (low from)) ≡ sets starts₀ i (replicate n (low from)))
+
+abbrev μ-loop : tie.MeasureT-loop
+μ-loop starts₀ i n from end k₀ starts k = end - k
+
+add-end : tie.Need-add-end Inv-loop μ-loop
+add-end c =
+    omega arith
+
+loop-holds : tie.Need-loop-holds Inv-loop μ-loop
+loop-holds c =
+    let a = c .before .args in
+    let e : a .i + a .n - a .i ≡ a .n = omega arith in
+    (omega arith, omega arith, refl, ap (λ m. sets (a .starts .now) (a .i) (replicate m (low (a .from)))) e)
+
+cast-put16 : tie.Need-cast-put16 Inv-loop μ-loop
+cast-put16 c =
+    omega arith
+
+put16-requires : tie.Need-put16-requires Inv-loop μ-loop
+put16-requires c κs =
+    omega arith
+
+loop-less : tie.Need-loop-less Inv-loop μ-loop
+loop-less c =
+    omega (arith, c .before .before .put16 .ensures .0)
+
+loop-again : tie.Need-loop-again Inv-loop μ-loop
+loop-again c =
+    let a = c .before .before .before .before .before .before .before .args in
+    let l = c .before .before .before .before .before .loop in
+    let put16 = c .before .before .put16 in
+    (omega (arith, put16 .ensures .0), omega (arith, put16 .ensures .0), put16 .kept .0 ∙ l .inv .2, fill-on (l .starts) (l .k) (low (a .from)) (put16 .last .0) (put16 .result) (a .i + a .n - l .k) (a .i + a .n - put16 .result) (omega (arith, put16 .ensures .0)) (omega (arith, put16 .ensures .0)) (put16 .ensures .1) ∙ l .inv .3)
+
+same-length : tie.Need-same-length Inv-loop μ-loop
+same-length c =
+    c .before .loop .inv .2
+
+returns : tie.Need-returns Inv-loop μ-loop
+returns c =
+    let a = c .before .before .before .args in
+    let l = c .before .loop in
+    fill-end (l .starts) (l .k) (low (a .from)) (a .i + a .n - l .k) (omega arith) ∙ l .inv .3
+
+pub put-starts-spec : {M : Type 1} → statement M
+put-starts-spec =
+    tie.close
+    (tie.spec
+    Inv-loop
+    μ-loop
+    add-end
+    loop-holds
+    cast-put16
+    put16-requires
+    loop-less
+    loop-again
+    same-length
+    returns)
