@@ -12,7 +12,7 @@ use Rattle.scope.specs.Report.{findings, report}
 use Rattle.scope.specs.Answer.{answer, reportText, bufferAfter}
 use Rattle.scope.proofs.Answers.{scratch-zero, scratch-length}
 use Rattle.scope.proofs.Refusals.{refused-line, refused-keeps, report-fills}
-use Rattle.scope.proofs.Promised.{promises, reported}
+use Rattle.meaning.proofs.Promised.{promises, reported}
 use Rattle.source.proofs.Agreement.{source-agrees}
 use Rattle.block.specs.Check.{Checked}
 use Rattle.block.specs.Mission.{Reports, Answered, aReport, aRefusal, Mission}

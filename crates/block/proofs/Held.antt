@@ -9,9 +9,9 @@ use Rattle.scope.specs.Types.{Ref, Table}
 use Rattle.scope.specs.Patterns.{Matrix, Typed, TypedRows}
 use Rattle.scope.specs.Blocks.{Block, nodesIn, parsed, blockOf}
 use Rattle.scope.specs.Report.{findings}
-use Rattle.scope.proofs.Parsing.{Good, block-good}
-use Rattle.scope.proofs.Fitting.{all-suit}
-use Rattle.scope.proofs.Gaps.{missing-typed}
+use Rattle.meaning.proofs.Parsing.{Good, block-good}
+use Rattle.meaning.proofs.Fitting.{all-suit}
+use Rattle.meaning.proofs.Gaps.{missing-typed}
 use Rattle.entering.specs.Said as read
 use Rattle.reading.specs.Files.{HoldsBlock}
 use Rattle.reading.proofs.Literals.{block-literal}

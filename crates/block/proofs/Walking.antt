@@ -14,7 +14,7 @@ use Rattle.scope.specs.Patterns.{Matrix}
 use Rattle.scope.specs.Blocks.{Block, nodesIn}
 use Rattle.scope.specs.Walks.{collectMissingPatterns}
 use Rattle.scope.specs.Report.{judged, Findings, findings, tooMuch}
-use Rattle.scope.proofs.Promised.{judged-length}
+use Rattle.meaning.proofs.Promised.{judged-length}
 use Rattle.walks.specs.Limits.{within}
 use Rattle.useful.specs.Driver.{Judges}
 use Rattle.missing.specs.Missing.{Finds}

@@ -8,7 +8,7 @@ use Rattle.scope.specs.declared.Answer.the-variants.{Report, Refused}
 use Rattle.scope.specs.Lists.{Text}
 use Rattle.scope.specs.Lines.{lines}
 use Rattle.scope.specs.Report.{findings, report}
-use Rattle.scope.specs.Promises.{Promises}
+use Rattle.meaning.specs.Promises.{Promises}
 use Rattle.source.specs.Agreement.{SourceAgrees}
 use Rattle.scope.proofs.Refusals.{Refusal}
 

@@ -9,7 +9,7 @@ use lib.ListN.{length, getD, take, drop, replicate, length-append, take-append-d
 use lib.Seq.{sets, length-sets, length-take-le, getD-take, drop-at}
 use lib.Dec.{ltb, leb, eqb}
 use Rattle.scope.proofs.Tests.{clash, both}
-use Rattle.scope.proofs.Parsing.{block-good}
+use Rattle.meaning.proofs.Parsing.{block-good}
 use Rattle.scope.specs.Lists.{all}
 use Rattle.scope.specs.Lines.{Line, ended, lines, isHex, unhex, isLine}
 use Rattle.scope.specs.Types.{Table}

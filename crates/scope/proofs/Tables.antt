@@ -2,10 +2,16 @@
 use mathlib.Core.List.{List, [], _∷_}
 use mathlib.Core.Path.{_≡_}
 use mathlib.Core.Bool.{Bool, true}
-use Prim.Native.String.{String}
+use Prim.Native.Nat.{ℕ, zero, suc}
+use Prim.Native.String.{String, _++_}
 use Rattle.scope.specs.Lists.{bytes, all, same}
 use Rattle.scope.specs.Answer.{printed}
 use Rattle.scope.proofs.Tests.{both, same-true}
+
+-- n times the same text
+abbrev pub repeated : ℕ → String → String
+repeated zero s = ""
+repeated (suc n) s = s ++ repeated n s
 
 -- a file's bytes, and the bytes that are printed for it
 pub record Example : Type 0 where

@@ -1,4 +1,4 @@
--- Document 01 as definitions, in its own order, and what they are to mean. This folder is all that a reader has to believe.
+-- Document 01 as definitions, in its own order. This folder, and the one of `meaning`, is all that a reader has to believe.
 pub mod Limits
 pub mod Lists
 pub mod Lines
@@ -10,7 +10,3 @@ pub mod Walks
 pub mod Text
 pub mod Report
 pub mod Answer
-pub mod Values
-pub mod Meaning
-pub mod Promises
-pub mod Renamed

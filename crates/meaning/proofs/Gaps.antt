@@ -9,17 +9,17 @@ use native.Mathlib.Omega.{arith}
 use lib.ListN.{length, getD, replicate, length-append, replicate-append-replicate}
 use lib.Dec.{eqb}
 use borrow.Author.Tests.{eqb-true, eq-eqb}
 use Rattle.scope.specs.Lists.{all}
 use Rattle.scope.specs.Types.{Ref, Ctor, Table, built, fieldsOf, fieldsAt, ctors, alts, arity}
 use Rattle.scope.specs.Patterns.{wild, lit, con, Row, Matrix, Typed, TypedRows}
 use Rattle.scope.specs.Walks.{rowIf, specializeRowByCtor, specializeRowByWildcard, eachRow, specializeByCtor, specializeByWildcard, seen, Column, column, Walk, unseen, gather, missingColumn, collectMissingStep, collectMissingIn, cost, collectMissingPatterns}
-use Rattle.scope.specs.Values.{Whole, Val, vint, vbytes, vopaque, vcon, Vals, _∷ᵛ_, _++ᵛ_, HasTypes, noValues, integers, byteStrings, opaques, made, fits, fitsAny, isPlain}
-use Rattle.scope.specs.Meaning.{AllValued, Witness}
+use Rattle.meaning.specs.Values.{Whole, Val, vint, vbytes, vopaque, vcon, Vals, _∷ᵛ_, _++ᵛ_, HasTypes, noValues, integers, byteStrings, opaques, made, fits, fitsAny, isPlain}
+use Rattle.meaning.specs.Meaning.{AllValued, Witness}
 use Rattle.scope.proofs.Tests.{clash, both, and-true, not-failed}
 use Rattle.scope.proofs.Costs.{wildcard-weigh, seen-weigh, default-cost, ctor-cost, arity-narrow}
-use Rattle.scope.proofs.Fitting.{Suits, done, wilds, AllSuit, also, named, wild-fits, types-append, opened, opened-wilds, fill, opaque-unnamed, named-seen, bare-unnamed}
-use Rattle.scope.proofs.Columns.{ctor-suits, wild-suits, Finds, isBare, isPart, isFull, column-finds}
-use Rattle.scope.proofs.Usefulness.{con-up, wilds-down, wild-up, wild-down, fitting-row, none-left}
+use Rattle.meaning.proofs.Fitting.{Suits, done, wilds, AllSuit, also, named, wild-fits, types-append, opened, opened-wilds, fill, opaque-unnamed, named-seen, bare-unnamed}
+use Rattle.meaning.proofs.Columns.{ctor-suits, wild-suits, Finds, isBare, isPart, isFull, column-finds}
+use Rattle.meaning.proofs.Usefulness.{con-up, wilds-down, wild-up, wild-down, fitting-row, none-left}
 
 -- every row of a matrix is such
 pub data Each (P : Row → Type 0) : Matrix → Type 0 where

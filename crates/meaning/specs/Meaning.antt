@@ -5,14 +5,14 @@ use mathlib.Core.Logic.{_↔_}
 use mathlib.Core.Bool.{true, false}
 use Prim.Native.Nat.{ℕ, _<_}
 use lib.ListN.{length, getD}
 use Rattle.scope.specs.Lists.{Text, all}
 use Rattle.scope.specs.Types.{Ref, Table, typeAt, refs, refsGood, allFinite}
 use Rattle.scope.specs.Patterns.{Row, Matrix, Typed, TypedRows}
 use Rattle.scope.specs.Frames.{isDecimal}
 use Rattle.scope.specs.Walks.{isUseful}
 use Rattle.scope.specs.Text.{decimal}
 use Rattle.scope.specs.Blocks.{isSound}
-use Rattle.scope.specs.Values.{Whole, plus, denotes, Val, Vals, []ᵛ, _∷ᵛ_, HasTypes, fits, fitsAny, admits}
+use Rattle.meaning.specs.Values.{Whole, plus, denotes, Val, Vals, []ᵛ, _∷ᵛ_, HasTypes, fits, fitsAny, admits}
 
 -- Equal texts are equal numbers: an integer has one decimal text
 pub record OneText (n : Whole) : Type 0 where

@@ -6,21 +6,21 @@ use mathlib.Core.Option.{Option, none, some}
 use Prim.Native.Nat.{ℕ, suc, _+_}
 use lib.ListN.{length, List·getD-map}
 use lib.Dec.{leb, ltb}
 use Rattle.scope.specs.declared.Answer.the-variants.{Report}
 use Rattle.scope.specs.Lists.{Text, bytes}
 use Rattle.scope.specs.Limits.{scratchCells, maxFile, maxNodes}
 use Rattle.scope.specs.Lines.{Line, lines, isLine, bytesOf}
 use Rattle.scope.specs.Types.{Ref, Ctor, Ty, integer, byteString, opaque, list, tuple, pair, dat, Table, typeAt, kind, fieldsOf, built, ctorsAt, alts, declared, addCtor}
 use Rattle.scope.specs.Patterns.{Raw, Row, Matrix, simplify}
 use Rattle.scope.specs.Walks.{Walk, collectMissingPatterns}
 use Rattle.scope.specs.Frames.{Read, found, Frame, isKind, frame}
 use Rattle.scope.specs.Blocks.{Block, Phase, types, constructors, clauses, closed, State, start, Step, ok, refuse, _>>=_, need, wholly, suited, nodesIn, stands, hasRoom, isFresh, isSound, withRow, enter, framed, line, Parsed, parsed, faulty, finish, goOn, parse, blockOf}
 use Rattle.scope.specs.Report.{judged, Findings, findings, tooMuch, report}
 use Rattle.scope.specs.Answer.{Outcome, refused, fitted, walked, judgedIn, outcome, answer, reportText}
-use Rattle.scope.specs.Renamed.{SameFrame, sameType, sameCtor, sameSubject, sameClause, sameEnd, Says, SameLine, sameLine, SameLines, noLines, alsoLine, Renamed, SameVerdicts, ReportOf, SameReports}
+use Rattle.meaning.specs.Renamed.{SameFrame, sameType, sameCtor, sameSubject, sameClause, sameEnd, Says, SameLine, sameLine, SameLines, noLines, alsoLine, Renamed, SameVerdicts, ReportOf, SameReports}
 use Rattle.scope.proofs.Tests.{clash}
 use Rattle.scope.proofs.Compute.{compute}
-use Rattle.scope.proofs.Shape.{missing-same, judged-same, simplify-same}
+use Rattle.meaning.proofs.Shape.{missing-same, judged-same, simplify-same}
 
 -- a constructor, a type, a table without names
 nameless : Ctor → Ctor

@@ -9,11 +9,11 @@ use native.Mathlib.Omega.{arith}
 use lib.ListN.{length, replicate}
 use lib.Dec.{eqb}
 use borrow.Author.Tests.{eqb-true}
 use Rattle.scope.specs.Types.{Ref, Ctor, Table, fieldsOf, fieldsAt, ctors, alts, arity}
 use Rattle.scope.specs.Patterns.{Literal, sameLiteral, wild, lit, Row, Matrix}
 use Rattle.scope.specs.Walks.{rowIf, specializeRowByCtor, specializeRowByLiteral, specializeRowByWildcard, specializeByCtor, specializeByLiteral, specializeByWildcard, seen, allSeen, columnType, Column, bare, part, full, columnAt, column}
 use Rattle.scope.proofs.Tests.{clash, both}
-use Rattle.scope.proofs.Fitting.{Suits, wilds, lits, cons, AllSuit, noRows, also}
+use Rattle.meaning.proofs.Fitting.{Suits, wilds, lits, cons, AllSuit, noRows, also}
 
 module _ {table : Table} where
   suit-append : {ts : List Ref} {a b : Matrix} → AllSuit table ts a → AllSuit table ts b → AllSuit table ts (a ++ b)

@@ -6,18 +6,18 @@ use mathlib.Core.Option.{Option, none, some}
 use Prim.Native.Nat.{ℕ, zero, suc, _+_}
 use lib.ListN.{length}
 use lib.Dec.{leb, eqb}
 use Rattle.scope.specs.Limits.{maxNodes}
 use Rattle.scope.specs.Lists.{all, any}
 use Rattle.scope.specs.Lines.{Line, isLine, bytesOf}
 use Rattle.scope.specs.Types.{Ref, Ctor, Ty, kind, Table}
 use Rattle.scope.specs.Patterns.{Row, Matrix, Typed, TypedRows, noRows, also, Raw, simplify}
 use Rattle.scope.specs.Frames.{Read, fault, found, andThen, give, byte, typeFrame, constructorFrame, patterns, Frame, typeOf, constructorOf, subjectOf, clauseOf, end, isKind, frame}
 use Rattle.scope.specs.Blocks.{Block, Phase, types, constructors, clauses, closed, standing, State, start, Step, ok, refuse, _>>=_, need, wholly, suited, nodesIn, stands, hasRoom, isFresh, isSound, enter, framed, line, parsed, finish, goOn, parse, blockOf}
-use Rattle.scope.specs.Values.{isByte, admits}
+use Rattle.meaning.specs.Values.{isByte, admits}
 use Rattle.scope.proofs.Tests.{clash, both, and-true}
 use Rattle.scope.proofs.Typing.{simplify-typed}
-use Rattle.scope.proofs.Literals.{line-bytes, goodRaw, patterns-good}
-use Rattle.scope.proofs.Simplified.{simplify-good}
+use Rattle.meaning.proofs.Literals.{line-bytes, goodRaw, patterns-good}
+use Rattle.meaning.proofs.Simplified.{simplify-good}
 
 -- a block with a subject
 pub record Good (b : Block) : Type 0 where

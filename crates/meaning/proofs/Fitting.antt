@@ -8,14 +8,14 @@ use native.Mathlib.Omega.{arith}
 use lib.ListN.{length, replicate, length-replicate, List·getD-eq-default}
 use lib.Dec.{ltb, eqb}
 use borrow.Author.Tests.{eqb-true, eq-eqb, ne-eqb, ltb-true, ltb-false}
 use Rattle.scope.specs.Lists.{Text, all, same}
 use Rattle.scope.specs.Types.{Ref, opaque, Table, kind, typeAt, fieldsAt, ctors, arity}
 use Rattle.scope.specs.Patterns.{Literal, int, byteArray, literalKind, sameLiteral, wild, lit, con, Row, Matrix, Typed, TypedRows}
 use Rattle.scope.specs.Walks.{rowIf, specializeRowByCtor, specializeRowByLiteral, specializeRowByWildcard, specializeByCtor, specializeByLiteral, specializeByWildcard, seen}
-use Rattle.scope.specs.Values.{Whole, plus, minus, denotes, sameWhole, Val, vint, vbytes, vopaque, vcon, Vals, []ᵛ, _∷ᵛ_, _++ᵛ_, isByte, HasTypes, noValues, integers, byteStrings, opaques, made, literalFits, fits, fitsAny, isAdmitted, admits}
-use Rattle.scope.specs.Meaning.{Valued, AllValued}
+use Rattle.meaning.specs.Values.{Whole, plus, minus, denotes, sameWhole, Val, vint, vbytes, vopaque, vcon, Vals, []ᵛ, _∷ᵛ_, _++ᵛ_, isByte, HasTypes, noValues, integers, byteStrings, opaques, made, literalFits, fits, fitsAny, isAdmitted, admits}
+use Rattle.meaning.specs.Meaning.{Valued, AllValued}
 use Rattle.scope.proofs.Tests.{clash, both, either, or-left, or-right, neither, or-false, not-passed, same-true, same-self}
-use Rattle.scope.proofs.Decimals.{decimal-same}
+use Rattle.meaning.proofs.Decimals.{decimal-same}
 
 -- how many values
 abbrev pub lengthᵛ : Vals → ℕ

@@ -8,14 +8,14 @@ use native.Mathlib.Omega.{arith}
 use lib.ListN.{length, getD}
 use lib.Dec.{leb, ltb, eqb}
 use borrow.Author.Tests.{leb-true, leb-false, lt-ltb}
 use Rattle.scope.specs.Limits.{maxDigits}
 use Rattle.scope.specs.Lists.{Text, all, among}
 use Rattle.scope.specs.Lines.{Line, ended, cut, isHex, hex, unhex, isLine, bytesOf}
 use Rattle.scope.specs.Patterns.{Raw, discard, variable, assign, pairOf, number, string, listOf, constructor, tupleOf, inner}
 use Rattle.scope.specs.Frames.{Read, fault, found, Reader, andThen, _>>=_, give, byte, passing, flag, times, choosing, judging, text, smallName, isDecimal, patternKinds, pattern, patternsIn, patterns}
-use Rattle.scope.specs.Values.{isByte}
+use Rattle.meaning.specs.Values.{isByte}
 use Rattle.scope.proofs.Tests.{clash, both, and-true, either}
 use Rattle.scope.proofs.Reading.{Every, every-at}
 
 -- A line's bytes are bytes
 hex-small : (d : ℕ) → isHex d ≡ true → hex d < 16

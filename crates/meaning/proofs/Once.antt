@@ -8,16 +8,16 @@ use native.Mathlib.Omega.{arith}
 use lib.ListN.{length, getD, replicate, length-append}
 use lib.Dec.{eqb}
 use borrow.Author.Tests.{eqb-true, ne-eqb, eq-eqb}
 use Rattle.scope.specs.Lists.{bit}
 use Rattle.scope.specs.Types.{Ref, Ctor, Table, built, fieldsOf, fieldsAt, ctors, alts, arity}
 use Rattle.scope.specs.Patterns.{wild, con, Row, Matrix}
 use Rattle.scope.specs.Walks.{eachRow, specializeByCtor, specializeByWildcard, seen, Column, column, Walk, unseen, missingColumn, collectMissingStep, collectMissingIn, cost, collectMissingPatterns}
-use Rattle.scope.specs.Values.{Val, vcon, Vals, []ᵛ, _∷ᵛ_, _++ᵛ_, HasTypes, noValues, integers, byteStrings, opaques, made, fits}
+use Rattle.meaning.specs.Values.{Val, vcon, Vals, []ᵛ, _∷ᵛ_, _++ᵛ_, HasTypes, noValues, integers, byteStrings, opaques, made, fits}
 use Rattle.scope.proofs.Tests.{clash}
-use Rattle.scope.proofs.Fitting.{AllSuit, types-append, tail-typed, opened-wilds}
-use Rattle.scope.proofs.Columns.{ctor-suits, wild-suits, Finds, isBare, isPart, isFull, column-finds}
-use Rattle.scope.proofs.Usefulness.{no-ctors}
-use Rattle.scope.proofs.Gaps.{rowsFor, unseenRow, ctorRows, unseen-rows, gather-rows, wild-cheaper, ctor-cheaper}
+use Rattle.meaning.proofs.Fitting.{AllSuit, types-append, tail-typed, opened-wilds}
+use Rattle.meaning.proofs.Columns.{ctor-suits, wild-suits, Finds, isBare, isPart, isFull, column-finds}
+use Rattle.meaning.proofs.Usefulness.{no-ctors}
+use Rattle.meaning.proofs.Gaps.{rowsFor, unseenRow, ctorRows, unseen-rows, gather-rows, wild-cheaper, ctor-cheaper}
 
 -- how many rows fit
 abbrev count : Matrix → Vals → ℕ

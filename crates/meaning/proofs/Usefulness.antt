@@ -9,15 +9,15 @@ use native.Mathlib.Omega.{arith}
 use lib.ListN.{length, getD, replicate, length-append}
 use lib.Dec.{eqb}
 use borrow.Author.Tests.{eqb-true, eq-eqb}
 use Rattle.scope.specs.Types.{Ref, Ctor, Ty, integer, byteString, opaque, list, tuple, pair, dat, Table, kind, typeAt, built, fieldsOf, fieldsAt, ctors, ctorsAt, arity}
 use Rattle.scope.specs.Patterns.{Literal, int, byteArray, literalKind, wild, lit, con, Row, Matrix}
 use Rattle.scope.specs.Walks.{specializeByCtor, specializeByLiteral, specializeByWildcard, seen, Column, column, Walk, joined, tryEach, usefulWild, usefulHead, isUsefulStep, isUsefulIn, cost, isUseful}
-use Rattle.scope.specs.Values.{vcon, Vals, []ᵛ, _∷ᵛ_, _++ᵛ_, HasTypes, noValues, integers, byteStrings, opaques, made, literalFits, fits, fitsAny, isAdmitted}
-use Rattle.scope.specs.Meaning.{AllValued, Witness, UsefulRight}
+use Rattle.meaning.specs.Values.{vcon, Vals, []ᵛ, _∷ᵛ_, _++ᵛ_, HasTypes, noValues, integers, byteStrings, opaques, made, literalFits, fits, fitsAny, isAdmitted}
+use Rattle.meaning.specs.Meaning.{AllValued, Witness, UsefulRight}
 use Rattle.scope.proofs.Tests.{clash, both, and-true, either, or-left, or-right}
 use Rattle.scope.proofs.Costs.{wilds-weigh, wildcard-weigh, literal-weigh, ctor-weigh, seen-weigh, default-cost, ctor-cost, arity-narrow}
-use Rattle.scope.proofs.Fitting.{valueOf, literal-self, literal-is, Suits, done, wilds, lits, cons, AllSuit, noRows, also, suits, all-suit, literal-fits, wild-fits, wild-unfit, types-append, tail-typed, parted, opened, opened-wilds, valued-at, Unnamed, bare-unnamed, unseen-unnamed}
-use Rattle.scope.proofs.Columns.{wilds-suit, ctor-suits, wild-suits, literal-suits, Finds, isBare, isPart, isFull, column-finds}
+use Rattle.meaning.proofs.Fitting.{valueOf, literal-self, literal-is, Suits, done, wilds, lits, cons, AllSuit, noRows, also, suits, all-suit, literal-fits, wild-fits, wild-unfit, types-append, tail-typed, parted, opened, opened-wilds, valued-at, Unnamed, bare-unnamed, unseen-unnamed}
+use Rattle.meaning.proofs.Columns.{wilds-suit, ctor-suits, wild-suits, literal-suits, Finds, isBare, isPart, isFull, column-finds}
 
 -- A constructor's column: a witness with the constructor, and one with its fields
 module _ {table : Table} {t : Ref} {c : ℕ} {q : Row} {m : Matrix} {ts : List Ref} where

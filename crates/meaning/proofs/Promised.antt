@@ -8,27 +8,27 @@ use native.Mathlib.Nat.{le-of-suc-le-suc, not-suc-le-zero}
 use native.Mathlib.Omega.{arith}
 use lib.ListN.{length, getD, take}
 use lib.Dec.{leb, ltb}
 use Rattle.scope.specs.declared.Answer.the-variants.{Report}
 use Rattle.scope.specs.Limits.{scratchCells, maxFile, reportBytes}
 use Rattle.scope.specs.Lists.{Text, all, bytes}
 use Rattle.scope.specs.Lines.{lines}
 use Rattle.scope.specs.Types.{Ref, Table}
 use Rattle.scope.specs.Patterns.{Matrix, Typed, TypedRows}
 use Rattle.scope.specs.Walks.{isUseful}
 use Rattle.scope.specs.Blocks.{Block, Parsed, parsed, faulty, blockOf}
 use Rattle.scope.specs.Report.{judged, findings, tooMuch, yeses, noes, report}
 use Rattle.scope.specs.Answer.{Outcome, fitted, refused, walked, judgedIn, outcome, answer, reportText}
-use Rattle.scope.specs.Values.{admits}
-use Rattle.scope.specs.Meaning.{Witness, Sound}
-use Rattle.scope.specs.Promises.{verdicts, Promises, Promised, SaysFindings}
+use Rattle.meaning.specs.Values.{admits}
+use Rattle.meaning.specs.Meaning.{Witness, Sound}
+use Rattle.meaning.specs.Promises.{verdicts, Promises, Promised, SaysFindings}
 use Rattle.scope.proofs.Tests.{clash, both, and-true}
 use Rattle.scope.proofs.Compute.{compute}
-use Rattle.scope.proofs.Fitting.{AllSuit, all-suit}
-use Rattle.scope.proofs.Usefulness.{useful-right}
-use Rattle.scope.proofs.Gaps.{each-at, missing-typed, missing-plain, missing-witness, missing-apart, missing-none}
-use Rattle.scope.proofs.Once.{missing-once}
-use Rattle.scope.proofs.Finite.{sound-right}
-use Rattle.scope.proofs.Parsing.{Good, block-good}
+use Rattle.meaning.proofs.Fitting.{AllSuit, all-suit}
+use Rattle.meaning.proofs.Usefulness.{useful-right}
+use Rattle.meaning.proofs.Gaps.{each-at, missing-typed, missing-plain, missing-witness, missing-apart, missing-none}
+use Rattle.meaning.proofs.Once.{missing-once}
+use Rattle.meaning.proofs.Finite.{sound-right}
+use Rattle.meaning.proofs.Parsing.{Good, block-good}
 
 -- an outcome with a report: the block it is about, its text, and its length
 record Behind (o : Outcome) (p : Parsed) (n : ℕ) : Type 0 where

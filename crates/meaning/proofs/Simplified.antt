@@ -6,12 +6,12 @@ use mathlib.Core.Option.{Option, none, some, Option·map}
 use Prim.Native.Nat.{ℕ, zero, suc, _-_}
 use lib.ListN.{length, getD, take, replicate}
 use lib.Dec.{ltb, eqb}
 use Rattle.scope.specs.Lists.{all}
 use Rattle.scope.specs.Types.{Ref, Table, kind, typeAt, ctors, fieldsAt}
 use Rattle.scope.specs.Patterns.{int, byteArray, Node, wild, lit, con, Row, Raw, discard, variable, assign, pairOf, number, string, listOf, constructor, tupleOf, Item, put, pat, suiting, cells, enough, arguments, whole, opened, putting, allPut, _>>=_, simplified, simplify}
-use Rattle.scope.specs.Values.{admits}
+use Rattle.meaning.specs.Values.{admits}
 use Rattle.scope.proofs.Tests.{clash, both, and-true}
-use Rattle.scope.proofs.Literals.{goodRaw}
+use Rattle.meaning.proofs.Literals.{goodRaw}
 
 -- a node to put has such a literal
 abbrev goodItem : Item → Bool

@@ -9,12 +9,12 @@ use native.Mathlib.Omega.{arith}
 use lib.ListN.{length, length-append}
 use lib.Dec.{leb, ltb, eqb, lit<}
 use borrow.Author.Tests.{ltb-true, ltb-false, leb-true, eqb-true, le-leb, ne-eqb}
 use Rattle.scope.specs.Lists.{Text, all, among}
 use Rattle.scope.specs.Frames.{isDigit, isPositive, isDecimal}
 use Rattle.scope.specs.Text.{decimalIn, decimal}
-use Rattle.scope.specs.Values.{Whole, plus, minus, digits, denotes}
-use Rattle.scope.specs.Meaning.{DecimalOnce, NumbersSay}
+use Rattle.meaning.specs.Values.{Whole, plus, minus, digits, denotes}
+use Rattle.meaning.specs.Meaning.{DecimalOnce, NumbersSay}
 use Rattle.scope.proofs.Tests.{clash, both, and-true, either, or-right}
 
 -- all are digits
 abbrev Digits : Text → Type 0

@@ -9,13 +9,13 @@ use native.Mathlib.Omega.{arith}
 use lib.ListN.{length, getD, length-map, List·getD-eq-default}
 use lib.Dec.{ltb}
 use borrow.Author.Tests.{ltb-true, ltb-false, lt-ltb}
 use Rattle.scope.specs.Lists.{bit, all, any, flatten}
 use Rattle.scope.specs.Types.{Ref, Ctor, Ty, integer, byteString, opaque, list, tuple, pair, dat, Table, typeAt, fieldsOf, built, ctorsAt, refs, isRef, refsGood, isKnown, hasValue, rounds, allFinite}
 use Rattle.scope.specs.Blocks.{isSound}
-use Rattle.scope.specs.Values.{plus, vint, vbytes, vopaque, vcon, Vals, []ᵛ, _∷ᵛ_, HasTypes, noValues, integers, byteStrings, opaques, made}
-use Rattle.scope.specs.Meaning.{Valued, AllValued, AllRefs, Sound, FiniteRight, SoundRight}
+use Rattle.meaning.specs.Values.{plus, vint, vbytes, vopaque, vcon, Vals, []ᵛ, _∷ᵛ_, HasTypes, noValues, integers, byteStrings, opaques, made}
+use Rattle.meaning.specs.Meaning.{Valued, AllValued, AllRefs, Sound, FiniteRight, SoundRight}
 use Rattle.scope.proofs.Tests.{clash, both, and-true, either, or-left, or-right}
-use Rattle.scope.proofs.Fitting.{types-append}
+use Rattle.meaning.proofs.Fitting.{types-append}
 
 -- a test that every element of a list passes
 all-at : {A : Type 0} (p : A → Bool) (l : List A) (d : A) → all p l ≡ true → (i : ℕ) → i < length l → p (getD l i d) ≡ true

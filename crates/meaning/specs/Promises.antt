@@ -5,15 +5,15 @@ use mathlib.Core.Logic.{_↔_}
 use mathlib.Core.Bool.{Bool, true, false}
 use Prim.Native.Nat.{ℕ, _+_, _<_}
 use lib.ListN.{length, getD, take}
 use Rattle.scope.specs.declared.Answer.the-variants.{Report}
 use Rattle.scope.specs.Lists.{all}
 use Rattle.scope.specs.Lines.{lines}
 use Rattle.scope.specs.Patterns.{Row, Matrix, TypedRows}
 use Rattle.scope.specs.Blocks.{Block, parsed, blockOf}
 use Rattle.scope.specs.Report.{findings, yeses, noes, report}
 use Rattle.scope.specs.Answer.{answer, reportText}
-use Rattle.scope.specs.Values.{Vals, HasTypes, fits, fitsAny, admits, isPlain}
-use Rattle.scope.specs.Meaning.{Sound, Witness}
+use Rattle.meaning.specs.Values.{Vals, HasTypes, fits, fitsAny, admits, isPlain}
+use Rattle.meaning.specs.Meaning.{Sound, Witness}
 
 -- the verdicts on a block's clauses
 abbrev pub verdicts : Block → List Bool
