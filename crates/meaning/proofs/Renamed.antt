@@ -1,25 +1,26 @@
 -- Two files that differ only in names, both answered with a report, have the same verdicts, number of gaps and calls: tables without names are equal.
 use mathlib.Core.Path.{_≡_, refl, ap, ap₂, sym, subst, subst₂, _∙_}
 use mathlib.Core.List.{List, [], _∷_, _++_, map, map-append}
-use mathlib.Core.Bool.{Bool, true, false, cond}
+use mathlib.Core.Bool.{Bool, true, false}
 use mathlib.Core.Option.{Option, none, some}
 use Prim.Native.Nat.{ℕ, suc, _+_}
 use lib.ListN.{length, List·getD-map}
-use lib.Dec.{leb, ltb}
+use lib.Dec.{leb}
 use Rattle.scope.specs.declared.Answer.the-variants.{Report}
-use Rattle.scope.specs.Lists.{Text, bytes}
-use Rattle.scope.specs.Limits.{scratchCells, maxFile, maxNodes}
+use Rattle.scope.specs.Lists.{bytes}
+use Rattle.scope.specs.Limits.{maxNodes}
 use Rattle.scope.specs.Lines.{Line, lines, isLine, bytesOf}
 use Rattle.scope.specs.Types.{Ref, Ctor, Ty, integer, byteString, opaque, list, tuple, pair, dat, Table, typeAt, kind, fieldsOf, built, ctorsAt, alts, declared, addCtor}
 use Rattle.scope.specs.Patterns.{Raw, Row, Matrix, simplify}
 use Rattle.scope.specs.Walks.{Walk, collectMissingPatterns}
 use Rattle.scope.specs.Frames.{Read, found, Frame, isKind, frame}
 use Rattle.scope.specs.Blocks.{Block, Phase, types, constructors, clauses, closed, State, start, Step, ok, refuse, _>>=_, need, wholly, suited, nodesIn, stands, hasRoom, isFresh, isSound, withRow, enter, framed, line, Parsed, parsed, faulty, finish, goOn, parse, blockOf}
-use Rattle.scope.specs.Report.{judged, Findings, findings, tooMuch, report}
-use Rattle.scope.specs.Answer.{Outcome, refused, fitted, walked, judgedIn, outcome, answer, reportText}
-use Rattle.meaning.specs.Renamed.{SameFrame, sameType, sameCtor, sameSubject, sameClause, sameEnd, Says, SameLine, sameLine, SameLines, noLines, alsoLine, Renamed, SameVerdicts, ReportOf, SameReports}
+use Rattle.scope.specs.Report.{judged, Findings, findings}
+use Rattle.scope.specs.Answer.{answer}
+use Rattle.meaning.specs.Renamed.{SameFrame, sameType, sameCtor, sameSubject, sameClause, sameEnd, Says, SameLine, sameLine, SameLines, noLines, alsoLine, Renamed, SameVerdicts, SameReports}
 use Rattle.scope.proofs.Tests.{clash}
 use Rattle.scope.proofs.Compute.{compute}
+use Rattle.meaning.proofs.Promised.{reported}
 use Rattle.meaning.proofs.Shape.{missing-same, judged-same, simplify-same}
 
 -- a constructor, a type, a table without names
@@ -189,56 +190,16 @@ same-verdicts f g e = record {
   secondCalls = ap (λ (x : Findings). x .missing .calls) e;
 }
 
--- a file that is answered with a report says a block, and the report is the block's
-module _ (file : List ℕ) (cells room n : ℕ) where
-  -- the same of an outcome
-  record Told (o : Outcome) : Type 0 where
-    block : Block
-    says : blockOf (lines file) ≡ parsed block
-    text : o .text ≡ report (block .table) (findings block)
-
-  judged-told : (p : Parsed) → blockOf (lines file) ≡ p → judgedIn room p .answer ≡ Report n → Told (judgedIn room p)
-  unfolding judgedIn walked fitted
-  judged-told (faulty m k) e h = clash (cc)
-  judged-told (parsed b) e h = go (tooMuch (findings b)) h
-    where
-      t : Text
-      t = report (b .table) (findings b)
-
-      fit : (x : Bool) → cond x (record { answer = Report (length t); text = t }) (refused 11 0) .answer ≡ Report n → Told (cond x (record { answer = Report (length t); text = t }) (refused 11 0))
-      fit true i = record { block = b; says = e; text = refl }
-      fit false i = clash (cc)
-
-      go : (x : Bool) → cond x (refused 10 0) (fitted room t) .answer ≡ Report n → Told (cond x (refused 10 0) (fitted room t))
-      go true i = clash (cc)
-      go false i = fit (leb (length t) room) i
-
-  told : answer file cells room ≡ Report n → Told (outcome file cells room)
-  unfolding answer outcome
-  told h = sized (ltb cells scratchCells) (ltb maxFile (length file)) h
-    where
-      read : Outcome
-      read = judgedIn room (blockOf (lines file))
-
-      sized : (x y : Bool) → cond x (refused 1 0) (cond y (refused 2 0) read) .answer ≡ Report n → Told (cond x (refused 1 0) (cond y (refused 2 0) read))
-      sized true y i = clash (cc)
-      sized false true i = clash (cc)
-      sized false false i = judged-told (blockOf (lines file)) refl i
-
-  pub report-of : answer file cells room ≡ Report n → (b : Block) × ReportOf file cells room b
-  unfolding reportText
-  report-of h = let w = told h in (w .block, record { says = w .says; text = w .text })
-
 -- Two files that differ only in constructor, label and variable names, both answered with a report
-pub renamed : (file file′ : List ℕ) (cells cells′ room room′ n n′ : ℕ) → Renamed file file′ → answer file cells room ≡ Report n → answer file′ cells′ room′ ≡ Report n′ → SameReports file cells room file′ cells′ room′
+pub renamed : (file file′ : List ℕ) (cells cells′ room room′ n n′ : ℕ) → Renamed file file′ → answer file cells room ≡ Report n → answer file′ cells′ room′ ≡ Report n′ → SameReports file cells room n file′ cells′ room′ n′
 unfolding blockOf
 renamed file file′ cells cells′ room room′ n n′ r e e′ =
-    let w = report-of file cells room n e in
-    let w′ = report-of file′ cells′ room′ n′ e′ in
-    let b = w .0 in
-    let b′ = w′ .0 in
-    let f : findings b ≡ findings b′ = findings-same b b′ (parse-same 1 1 start start b b′ (r .sameLines) (record { tables = refl; subjects = refl; rows = refl }) (w .1 .says) (w′ .1 .says)) in
-    record { block = b; block′ = b′; first = w .1; second = w′ .1; same = same-verdicts (findings b) (findings b′) f }
+    let w = reported file cells room n e in
+    let w′ = reported file′ cells′ room′ n′ e′ in
+    let b = w .block in
+    let b′ = w′ .block in
+    let f : findings b ≡ findings b′ = findings-same b b′ (parse-same 1 1 start start b b′ (r .sameLines) (record { tables = refl; subjects = refl; rows = refl }) (w .says) (w′ .says)) in
+    record { first = w; second = w′; same = same-verdicts (findings b) (findings b′) f }
 
 -- lines that compute to frames of kind k
 both-say : {l l′ : Line} (k : ℕ) (rest rest′ : List ℕ) {f f′ : Frame} → isLine l ≡ true → isLine l′ ≡ true → bytesOf l ≡ k ∷ rest → bytesOf l′ ≡ k ∷ rest′ → frame k rest ≡ found f [] → frame k rest′ ≡ found f′ [] → SameFrame f f′ → SameLine l l′

@@ -8,9 +8,8 @@ use Rattle.scope.specs.Lines.{Line, lines, isLine, bytesOf}
 use Rattle.scope.specs.Types.{Ref, Ctor, Ty}
 use Rattle.scope.specs.Patterns.{Raw}
 use Rattle.scope.specs.Frames.{found, Frame, typeOf, constructorOf, subjectOf, clauseOf, end, frame}
-use Rattle.scope.specs.Blocks.{Block, parsed, blockOf}
-use Rattle.scope.specs.Report.{Findings, findings, report}
-use Rattle.scope.specs.Answer.{reportText}
+use Rattle.scope.specs.Report.{Findings, findings}
+use Rattle.meaning.specs.Promises.{Reported}
 
 -- two frames that differ only in names. A clause's patterns as read hold no variable's name
 pub data SameFrame : Frame → Frame → Type 0 where
@@ -47,15 +46,8 @@ pub record SameVerdicts (f g : Findings) : Type 0 where
   pub firstCalls : f .reached .calls ≡ g .reached .calls
   pub secondCalls : f .missing .calls ≡ g .missing .calls
 
--- the report of a file is the one of the block that it says
-pub record ReportOf (file : List ℕ) (cells room : ℕ) (b : Block) : Type 0 where
-  pub says : blockOf (lines file) ≡ parsed b
-  pub text : reportText file cells room ≡ report (b .table) (findings b)
-
--- both answered with a report: the same verdicts, number of gaps and calls
-pub record SameReports (file : List ℕ) (cells room : ℕ) (file′ : List ℕ) (cells′ room′ : ℕ) : Type 0 where
-  pub block : Block
-  pub block′ : Block
-  pub first : ReportOf file cells room block
-  pub second : ReportOf file′ cells′ room′ block′
-  pub same : SameVerdicts (findings block) (findings block′)
+-- both answered with a report: the blocks that the reports are about have the same verdicts, number of gaps and calls
+pub record SameReports (file : List ℕ) (cells room n : ℕ) (file′ : List ℕ) (cells′ room′ n′ : ℕ) : Type 0 where
+  pub first : Reported file cells room n
+  pub second : Reported file′ cells′ room′ n′
+  pub same : SameVerdicts (findings (first .block)) (findings (second .block))
