@@ -9,7 +9,7 @@ use lib.ListN.{length, getD, take, drop, List·getD-eq-default, length-drop}
 use lib.Seq.{getD-drop}
 use lib.Dec.{eqb}
 use Rattle.scope.proofs.Tests.{clash}
-use Rattle.scope.proofs.Reading.{patterns-none, patterns-law}
+use Rattle.laws.proofs.Reading.{patterns-none, patterns-law}
 use Rattle.scope.specs.Lists.{Text, bit, among}
 use Rattle.scope.specs.Patterns.{Raw, variable, assign, number, string, listOf, constructor, inner}
 use Rattle.scope.specs.Frames as scope

@@ -8,7 +8,7 @@ use Rattle.scope.specs.Lists.{Text, bytes}
 use Rattle.scope.specs.Types.{Ref, Table, ctors, ctorAt, fieldsAt, arity}
 use Rattle.scope.specs.Patterns.{wild, lit, con, Row, Typed, done, wilds, lits, cons}
 use Rattle.scope.specs.Text.{commas, skip, Mode, source, paste, Look, round, square, spelled, look, isNil, textUnless, afterFirst, afterNext, Place, alone, inTail, texts, fieldText, fieldTexts, argumentText, prettyCtor, tailCtor, prettyStep, prettyAt}
-use Rattle.scope.proofs.Texts.{pretty-law}
+use Rattle.laws.proofs.Texts.{pretty-law}
 use Rattle.text.specs.Rows.{Slices, Tabled}
 use Rattle.text.proofs.Rows.{skip-none}
 use Rattle.text.proofs.Looks.{square-is, labels-few}

@@ -16,7 +16,7 @@ use Rattle.scope.specs.Walks.{rowIf, specializeRowByCtor, specializeRowByWildca
 use Rattle.meaning.specs.Values.{Whole, Val, vint, vbytes, vopaque, vcon, Vals, _∷ᵛ_, _++ᵛ_, HasTypes, noValues, integers, byteStrings, opaques, made, fits, fitsAny, isPlain}
 use Rattle.meaning.specs.Meaning.{AllValued, Witness}
 use Rattle.scope.proofs.Tests.{clash, both, and-true, not-failed}
-use Rattle.scope.proofs.Costs.{wildcard-weigh, seen-weigh, default-cost, ctor-cost, arity-narrow}
+use Rattle.laws.proofs.Costs.{wildcard-weigh, seen-weigh, default-cost, ctor-cost, arity-narrow}
 use Rattle.meaning.proofs.Fitting.{Suits, done, wilds, AllSuit, also, named, wild-fits, types-append, opened, opened-wilds, fill, opaque-unnamed, named-seen, bare-unnamed}
 use Rattle.meaning.proofs.Columns.{ctor-suits, wild-suits, Finds, isBare, isPart, isFull, column-finds}
 use Rattle.meaning.proofs.Usefulness.{con-up, wilds-down, wild-up, wild-down, fitting-row, none-left}

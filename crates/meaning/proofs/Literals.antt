@@ -15,7 +15,7 @@ use Rattle.scope.specs.Patterns.{Raw, discard, variable, assign, pairOf, number
 use Rattle.scope.specs.Frames.{Read, fault, found, Reader, andThen, _>>=_, give, byte, passing, flag, times, choosing, judging, text, smallName, isDecimal, patternKinds, pattern, patternsIn, patterns}
 use Rattle.meaning.specs.Values.{isByte}
 use Rattle.scope.proofs.Tests.{clash, both, and-true, either}
-use Rattle.scope.proofs.Reading.{Every, every-at}
+use Rattle.laws.proofs.Reading.{Every, every-at}
 
 -- A line's bytes are bytes
 hex-small : (d : ℕ) → isHex d ≡ true → hex d < 16

@@ -15,7 +15,7 @@ use Rattle.scope.specs.Frames.{Read, fault, found, andThen, give, byte, typeFra
 use Rattle.scope.specs.Blocks.{Block, Phase, types, constructors, clauses, closed, standing, State, start, Step, ok, refuse, _>>=_, need, wholly, suited, nodesIn, stands, hasRoom, isFresh, isSound, enter, framed, line, parsed, finish, goOn, parse, blockOf}
 use Rattle.meaning.specs.Values.{isByte, admits}
 use Rattle.scope.proofs.Tests.{clash, both, and-true}
-use Rattle.scope.proofs.Typing.{simplify-typed}
+use Rattle.laws.proofs.Typing.{simplify-typed}
 use Rattle.meaning.proofs.Literals.{line-bytes, goodRaw, patterns-good}
 use Rattle.meaning.proofs.Simplified.{simplify-good}
 

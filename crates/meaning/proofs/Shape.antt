@@ -11,7 +11,7 @@ use Rattle.scope.specs.Patterns.{wild, lit, con, Row, Matrix, Raw, discard, var
 use Rattle.scope.specs.Walks.{specializeByCtor, Column, bare, part, full, columnType, columnAt, column, Walk, holding, tryEach, gather, unseen, eachRow, turned, specializeByWildcard}
 use Rattle.scope.specs.Walks.{usefulWild, usefulHead, isUsefulStep, isUsefulIn, missingColumn, collectMissingStep, collectMissingIn, cost, isUseful, collectMissingPatterns}
 use Rattle.scope.specs.Report.{judged}
-use Rattle.scope.proofs.Steps.{useful-fuel, missing-fuel}
+use Rattle.laws.proofs.Steps.{useful-fuel, missing-fuel}
 
 -- a constructor's field types stand among its type's alternatives
 fields-at : (table : Table) (t c : ℕ) → fieldsAt table t c ≡ getD (alts table t) c []

@@ -14,7 +14,7 @@ use Rattle.scope.specs.Patterns.{Literal, sameLiteral, wild, lit, con, Row, Mat
 use Rattle.scope.specs.Walks.{rowIf, specializeRowByCtor, specializeRowByLiteral, specializeRowByWildcard, eachRow, specializeByCtor, specializeByLiteral, specializeByWildcard, beginsWith, seen, allSeen, columnType, Column, bare, part, full, columnAt, column}
 use Rattle.scope.specs.Walks.{Walk, plain, holding, tryEach, usefulWild, usefulHead, isUsefulStep, isUsefulIn, cost, isUseful, unseen, gather, missingColumn, collectMissingStep, collectMissingIn, collectMissingPatterns}
 use Rattle.scope.proofs.Tests.{clash}
-use Rattle.scope.proofs.Steps.{useful-fuel, missing-fuel}
+use Rattle.laws.proofs.Steps.{useful-fuel, missing-fuel}
 
 module _ (table : Table) where
   -- two rows begin with the same patterns, of the types ts

@@ -15,7 +15,7 @@ use Rattle.scope.specs.Walks.{specializeByCtor, specializeByLiteral, specialize
 use Rattle.meaning.specs.Values.{vcon, Vals, []ᵛ, _∷ᵛ_, _++ᵛ_, HasTypes, noValues, integers, byteStrings, opaques, made, literalFits, fits, fitsAny, isAdmitted}
 use Rattle.meaning.specs.Meaning.{AllValued, Witness, UsefulRight}
 use Rattle.scope.proofs.Tests.{clash, both, and-true, either, or-left, or-right}
-use Rattle.scope.proofs.Costs.{wilds-weigh, wildcard-weigh, literal-weigh, ctor-weigh, seen-weigh, default-cost, ctor-cost, arity-narrow}
+use Rattle.laws.proofs.Costs.{wilds-weigh, wildcard-weigh, literal-weigh, ctor-weigh, seen-weigh, default-cost, ctor-cost, arity-narrow}
 use Rattle.meaning.proofs.Fitting.{valueOf, literal-self, literal-is, Suits, done, wilds, lits, cons, AllSuit, noRows, also, suits, all-suit, literal-fits, wild-fits, wild-unfit, types-append, tail-typed, parted, opened, opened-wilds, valued-at, Unnamed, bare-unnamed, unseen-unnamed}
 use Rattle.meaning.proofs.Columns.{wilds-suit, ctor-suits, wild-suits, literal-suits, Finds, isBare, isPart, isFull, column-finds}
 

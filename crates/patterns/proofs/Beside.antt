@@ -10,7 +10,7 @@ use lib.Seq.{sets, sets-eq, take-at, drop-at, length-take-le}
 use lib.Dec.{ltb}
 use borrow.Author.Tests.{ltb-true, ltb-false}
 use Rattle.scope.proofs.Tests.{clash}
-use Rattle.scope.proofs.Typing.{simplify-typed}
+use Rattle.laws.proofs.Typing.{simplify-typed}
 use Rattle.scope.specs.Types.{Ref, Ty, opaque, Table, ctorsAt, ctors, fieldsAt, arity}
 use Rattle.scope.specs.Patterns.{Node, wild, lit, con, Row, Typed, Raw, simplify}
 use Rattle.scope.specs.Frames.{patterns}

@@ -8,7 +8,7 @@ use native.Mathlib.Omega.{arith}
 use lib.ListN.{length, drop, length-append, length-map}
 use lib.Seq.{sets}
 use Rattle.scope.proofs.Tests.{clash}
-use Rattle.scope.proofs.Reading.{patterns-none}
+use Rattle.laws.proofs.Reading.{patterns-none}
 use Rattle.scope.specs.Types.{Table}
 use Rattle.scope.specs.Patterns.{Row, Raw, inner, Item, put, pat, simplified, simplify}
 use Rattle.scope.specs.Frames.{Read, found, patterns}

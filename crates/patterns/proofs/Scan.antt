@@ -11,7 +11,7 @@ use lib.Seq.{getD-drop, drop-drop, drop-cons}
 use lib.Dec.{leb, eqb}
 use borrow.Author.Tests.{leb-true}
 use Rattle.scope.proofs.Tests.{clash, both}
-use Rattle.scope.proofs.Reading.{patterns-law}
+use Rattle.laws.proofs.Reading.{patterns-law}
 use Rattle.scope.specs.Lists.{Text, among}
 use Rattle.scope.specs.Patterns.{Raw, discard, variable, assign, pairOf, number, string, listOf, constructor, tupleOf, inner}
 use Rattle.scope.specs.Frames.{Read, fault, found, Reader, andThen, _>>=_, give, byte, passing, within, flag, times, judging, name, text, smallName, isDecimal, pattern, patterns}

@@ -1,4 +1,4 @@
--- What is shown of the definitions. Other crates cite these laws and not the definitions' text.
+-- Tables of files computed from the definitions, and what an answer, a limit and a refusal come to.
 pub mod Tests
 pub mod Compute
 pub mod Tables
@@ -6,8 +6,3 @@ pub mod Worked
 pub mod Further
 pub mod Answers
 pub mod Refusals
-pub mod Costs
-pub mod Steps
-pub mod Texts
-pub mod Reading
-pub mod Typing

@@ -19,7 +19,7 @@ use Rattle.source.specs.Source as rust
 use Rattle.source.specs.Source.{Patterns, []ᵖ, _∷ᵖ_, Panic, prettyArgs, prettyEach, TypedPattern}
 use Rattle.source.specs.Agreement as agreement
 use Rattle.source.specs.Agreement.{Shows, ShowsRows, noRows, also, written, SourceAgrees}
-use Rattle.scope.proofs.Costs.{sum-append}
+use Rattle.laws.proofs.Costs.{sum-append}
 use Rattle.source.proofs.Rows.{Named, shows-len, rows-append}
 use Rattle.source.proofs.Walks.{useful-agrees, missing-agrees}
 use Rattle.source.proofs.Texts.{Proper, pretty-agrees, FreeRows, and-row, all-free}

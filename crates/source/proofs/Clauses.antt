@@ -15,7 +15,7 @@ use Rattle.source.specs.Source as rust
 use Rattle.source.specs.Source.{Pattern, constructor, Patterns, []ᵖ, _∷ᵖ_, _++ᵖ_, len, wildcards, listConstructors, tupleConstructors, valueConstructor, constructorsFor, TypedPattern, TypedPatterns, []ᵗ, _∷ᵗ_, count, Panic, spreadBy, simplifyEach, simplifyCells}
 use Rattle.source.specs.Agreement.{Made, Shows, done, wilds, lits, cons, written, writtenEach}
 use Rattle.scope.proofs.Tests.{clash, both}
-use Rattle.scope.proofs.Typing.{enough-le, suiting-some}
+use Rattle.laws.proofs.Typing.{enough-le, suiting-some}
 use Rattle.source.proofs.Rows.{len-append, len-wildcards, shows-wilds}
 
 -- patterns, one after another

@@ -18,7 +18,7 @@ use Rattle.source.specs.Source as rust
 use Rattle.source.specs.Source.{ValueConstructor, Pattern, wildcard, literal, constructor, Patterns, []ᵖ, _∷ᵖ_, _++ᵖ_, len, Panic, cellTexts, tailTexts, findMap, labelText, labelTexts, prettyRecord, pretty, prettyTail, prettyArgs, fieldMapOf, valueConstructor}
 use Rattle.source.specs.Agreement.{Made, Shows, done, wilds, lits, cons}
 use Rattle.scope.proofs.Tests.{clash, same-true, same-self}
-use Rattle.scope.proofs.Texts.{pretty-law}
+use Rattle.laws.proofs.Texts.{pretty-law}
 use Rattle.source.proofs.Rows.{Named, name-number, shows-len}
 use Rattle.source.proofs.Walks.{From, over, next, from-all}
 

@@ -14,7 +14,7 @@ use Rattle.scope.specs.Types.{Ref, Table, typeAt, kind, ctorAt, fieldsAt, arity
 use Rattle.scope.specs.Patterns.{Literal, Node, wild, lit, con, Row}
 use Rattle.scope.specs.Text.{commas, skip, Mode, Look, round, square, spelled, look, Place, alone, inTail, fieldTexts, argumentText, prettyCtor, tailCtor, prettyStep, prettyAt}
 use Rattle.scope.proofs.Tests.{clash}
-use Rattle.scope.proofs.Texts.{pretty-law}
+use Rattle.laws.proofs.Texts.{pretty-law}
 use Rattle.layout.specs.Types.{textAt}
 use Rattle.layout.specs.Nodes.{literalAt}
 use Rattle.writing.specs.Writing.{Wrote}

@@ -10,7 +10,7 @@ use Rattle.scope.specs.Types.{Ref, Table, fieldsOf, built, ctors, fieldsAt, alt
 use Rattle.scope.specs.Patterns.{Node, wild, con, Row, Matrix}
 use Rattle.scope.specs.Walks as scope
 use Rattle.scope.specs.Walks.{Walk, plain, holding, turned, joined, gather, unseen, seen, specializeByCtor, specializeByWildcard, recoverCtor, column, missingColumn, collectMissingStep, collectMissingPatterns}
-use Rattle.scope.proofs.Steps.{missing-law}
+use Rattle.laws.proofs.Steps.{missing-law}
 use Rattle.layout.specs.Types.{Shape}
 use Rattle.layout.specs.Nodes.{nodeOf, rowOf}
 use Rattle.matrix.specs.Numbers as numbers

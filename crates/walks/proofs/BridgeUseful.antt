@@ -10,7 +10,7 @@ use lib.ListN.{length, getD, replicate, length-append, length-map, List·getD-ma
 use Rattle.scope.specs.Types.{Ref, Table, fieldsOf, built, ctors, fieldsAt, alts, arity}
 use Rattle.scope.specs.Patterns.{wild, Row, Matrix}
 use Rattle.scope.specs.Walks.{Walk, holding, joined, tryEach, specializeByCtor, specializeByLiteral, specializeByWildcard, column, usefulWild, usefulHead, usefulBody, isUsefulStep, isUseful}
-use Rattle.scope.proofs.Steps.{useful-law}
+use Rattle.laws.proofs.Steps.{useful-law}
 use Rattle.layout.specs.Types.{Shape}
 use Rattle.matrix.specs.Numbers as numbers
 use Rattle.walks.specs.Walks as walks

@@ -6,12 +6,12 @@ use mathlib.Core.Option.{Option, none, some}
 use Prim.Native.Nat.{ℕ, zero, suc, _+_, _*_, _≤_, _<_}
 use native.Mathlib.Omega.{arith}
 use lib.ListN.{length, replicate}
 use Rattle.scope.specs.Types.{Ref, Table, alts, arity}
 use Rattle.scope.specs.Patterns.{wild, lit, con, Row, Matrix}
 use Rattle.scope.specs.Walks.{specializeByCtor, specializeByLiteral, specializeByWildcard, seen, allSeen, columnType, Column, bare, part, full, columnAt, column}
 use Rattle.scope.specs.Walks.{Walk, holding, tryEach, gather, usefulWild, usefulHead, isUsefulStep, missingColumn, collectMissingStep, isUsefulIn, collectMissingIn, longest, widest, cost, isUseful, collectMissingPatterns}
 use Rattle.scope.proofs.Tests.{clash, both}
-use Rattle.scope.proofs.Costs.{wilds-weigh, wildcard-weigh, literal-weigh, ctor-weigh, seen-weigh, default-cost, ctor-cost, longest-at, arity-narrow}
+use Rattle.laws.proofs.Costs.{wilds-weigh, wildcard-weigh, literal-weigh, ctor-weigh, seen-weigh, default-cost, ctor-cost, longest-at, arity-narrow}
 
 -- what a full column says of each constructor: it is seen, and it is no wider than the widest
 record Listed (table : Table) (m : Matrix) (c : ℕ) (ks : List (List Ref)) : Type 0 where
