@@ -207,6 +207,8 @@ further =
     record { file = "0106\n0201410000\n02094d795f5f5475706c650000\n020251390000\n0208415f5f5475706c650000\n0208415f5f7475706c650000\n020a545f5f5475706c65735f0000\n02055475706c650000\n01050000\n0301\n0407010d62613162615f6239395f627a3906020001\n040701017806060001\n05\n"; text = "clauses 2 reached 2 never 0\nclause 1 reached\nclause 2 reached\ngaps 5\nmissing (_, A)\npaste (_, A)\nmissing (_, ())\npaste (_, My__Tuple)\nmissing (_, ())\npaste (_, A__Tuple)\nmissing (_, A__tuple)\npaste (_, A__tuple)\nmissing (_, ())\npaste (_, T__Tuples_)\ncalls 5 4\n" } ∷
     -- unseen constructors in declared order, not by name; spread
     record { file = "0106\n0208415f5f7475706c650000\n0201440101000166\n0204536f6d650000\n020142000400010101\n0204426c7565000101\n0100\n0300\n0406000001\n0406020001\n040201630604010000\n05\n"; text = "clauses 3 reached 3 never 0\nclause 1 reached\nclause 2 reached\nclause 3 reached\ngaps 2\nmissing D { f }\npaste D { f }\nmissing B(_, _, _, _)\npaste B(_, _, _, _)\ncalls 5 2\n" } ∷
+    -- a name of 32 bytes changes no order
+    record { file = "0106\n0201410000\n0220" ++ repeated 32 "42" ++ "0000\n0300\n0406000000\n05\n"; text = "clauses 1 reached 1 never 0\nclause 1 reached\ngaps 1\nmissing BBBBBBBBBBBBBBBBBBBBBBBBBBBBBBBB\npaste BBBBBBBBBBBBBBBBBBBBBBBBBBBBBBBB\ncalls 1 2\n" } ∷
     -- a label alone for a wildcard
     record { file = "0100\n0106\n0201410101000161\n0301\n0406000100030131\n05\n"; text = "clauses 1 reached 1 never 0\nclause 1 reached\ngaps 1\nmissing A { a }\npaste A { a }\ncalls 1 3\n" } ∷
     -- a full column of lists: constructors are tried up to the first yes
