@@ -92,26 +92,26 @@ unfolding placed placedPattern
 tuple-is n [] = refl
 tuple-is n (k ∷ bs) = refl
 
+-- the first of what is left at a place stands there
+first-is : (bytes : List ℕ) (at : ℕ) → getD (drop at bytes) 0 0 ≡ getD bytes at 0
+first-is bytes at = getD-drop at bytes 0 0 ∙ ap (λ (i : ℕ). getD bytes i 0) (add-zero at)
+
 -- Each from its place in the bytes on
 module _ (bytes : List ℕ) (at k : ℕ) (c : Read) (r : Pattern) (said : r ≡ leaving k c) where
-  first-is : getD (drop at bytes) 0 0 ≡ getD bytes at 0
-  first-is = getD-drop at bytes 0 0 ∙ ap (λ (i : ℕ). getD bytes i 0) (add-zero at)
-
   pub list-read : (j : ℕ) → k ≡ getD bytes at 0 + j → j ≡ getD bytes (at + 1) 0 → c ≡ readAt bytes at (flagged 1) → r ≡ patternAt bytes at (getD patternKinds 5 nothing)
   list-read j a b e =
-      let m : k ≡ getD (drop at bytes) 0 0 + getD (drop at bytes) 1 0 = omega (arith, first-is, getD-drop at bytes 1 0) in
+      let m : k ≡ getD (drop at bytes) 0 0 + getD (drop at bytes) 1 0 = omega (arith, first-is bytes at, getD-drop at bytes 1 0) in
       said ∙ ap (λ (i : ℕ). leaving i c) m ∙ ap (leaving (getD (drop at bytes) 0 0 + getD (drop at bytes) 1 0)) e ∙ list-is (length bytes) (drop at bytes)
 
   pub ctor-read : k ≡ getD bytes (at + 1) 0 → c ≡ readAt bytes at (flagged 2) → r ≡ patternAt bytes at (getD patternKinds 6 nothing)
   ctor-read m e = said ∙ ap (λ (i : ℕ). leaving i c) (m ∙ sym (getD-drop at bytes 1 0)) ∙ ap (leaving (getD (drop at bytes) 1 0)) e ∙ ctor-is (length bytes) (drop at bytes)
 
   pub tuple-read : k ≡ getD bytes at 0 → c ≡ readAt bytes at byte → r ≡ patternAt bytes at (getD patternKinds 8 nothing)
-  tuple-read m e = said ∙ ap (λ (i : ℕ). leaving i c) (m ∙ sym first-is) ∙ ap (leaving (getD (drop at bytes) 0 0)) e ∙ tuple-is (length bytes) (drop at bytes)
+  tuple-read m e = said ∙ ap (λ (i : ℕ). leaving i c) (m ∙ sym (first-is bytes at)) ∙ ap (leaving (getD (drop at bytes) 0 0)) e ∙ tuple-is (length bytes) (drop at bytes)
 
 pub list-few : (bytes : List ℕ) (at : ℕ) (r : Pattern) → getD bytes at 0 ≤ 255 → r ≡ patternAt bytes at (getD patternKinds 5 nothing) → leaves r ≤ 256
 list-few bytes at r h e =
-    let f : getD (drop at bytes) 0 0 ≡ getD bytes at 0 = getD-drop at bytes 0 0 ∙ ap (λ (i : ℕ). getD bytes i 0) (add-zero at) in
-    omega (arith, ap leaves e, list-most (length bytes) (drop at bytes) (omega arith))
+    omega (arith, ap leaves e, list-most (length bytes) (drop at bytes) (omega (arith, first-is bytes at)))
 
 -- A pattern, by its first byte
 pub pattern-end : (bytes : List ℕ) (at : ℕ) → at ≤ length bytes → length bytes ≤ at → code.the-variants.Fault at ≡ patternAt bytes at pattern
