@@ -1,6 +1,6 @@
 -- `isFreshIn` of slices that hold a type table is document 01's `isFresh` of the table and the frame's constructor.
 use mathlib.Core.Path.{_≡_, refl, sym, ap, ap₂, subst, _∙_}
-use mathlib.Core.Bool.{Bool, true, false, not, cond, _&&_, _||_}
+use mathlib.Core.Bool.{Bool, true, false, not, _&&_, _||_}
 use mathlib.Core.List.{List, [], _∷_, map}
 use Prim.Native.Nat.{ℕ, _+_, _-_, _*_, _<_}
 use native.Mathlib.Omega.{arith}
@@ -11,8 +11,8 @@ use Rattle.scope.specs.Frames.{found, constructorFrame}
 use Rattle.scope.specs.Blocks.{isFresh}
 use Rattle.layout.specs.Types.{textAt, Holds}
 use Rattle.layout.specs.Places.{places, reads}
-use Rattle.table.specs.Build.{flagAt, arityIn, isBare, EndsInData}
-use Rattle.fresh.specs.Fresh.{nameThere, labelTexts, isFreshIn}
+use Rattle.table.specs.Build.{flagAt, EndsInData}
+use Rattle.fresh.specs.Fresh.{nameThere, labelTexts, labelsNew, isFreshIn}
 use Rattle.layout.proofs.Slices.{any-index}
 use Rattle.table.proofs.FrameBytes.{LabelsRead, without, with, ctor-read}
 use Rattle.table.proofs.Tables.{type-new, last-is}
@@ -28,8 +28,8 @@ not-or true b = refl
 not-or false b = refl
 
 -- the frame's labels decide as its bytes do
-by-labels : (bytes : List ℕ) (at : ℕ) (c : Ctor) (a : Bool) → LabelsRead bytes at c → (not a && cond (isBare bytes (flagAt bytes at)) true (not (twice (labelTexts bytes (flagAt bytes at + 2) (arityIn bytes at))))) ≡ not (a || twice (c .labels))
-unfolding labelTexts twice
+by-labels : (bytes : List ℕ) (at : ℕ) (c : Ctor) (a : Bool) → LabelsRead bytes at c → (not a && labelsNew bytes (flagAt bytes at)) ≡ not (a || twice (c .labels))
+unfolding labelsNew labelTexts twice
 by-labels bytes at c a (without b ls fs) = rw (b, ls) (not-or a (twice []))
 by-labels bytes at c a (with b l) = rw (b, l .labelsAre) (not-or a (twice (c .labels)))
 

@@ -3,39 +3,30 @@ use cells::at8;
 use cells::at16;
 use cells::wide8;
 use cells::wide16;
+use layout::after_name;
+use layout::name_at;
 use names::same;
 ghost use mathlib.Core.Path.{_≡_};
 ghost use Prim.Native.Nat.{_+_, _*_, _<_, _^_};
 ghost use Rattle.scope.specs.Lists.{any, twice, same as sameText};
 ghost use Rattle.layout.specs.Types.{textAt};
-ghost use Rattle.fresh.specs.Fresh.{nameThere, labelTexts, isFreshIn};
+ghost use Rattle.fresh.specs.Fresh.{nameThere, labelTexts, labelsNew, isFreshIn};
 
-// The name whose length stands at `at`.
-pub fn name_at(bytes: &[u8], at: usize) -> &[u8]
-    requires { ⌜ at < 2 ^ 63 ⌝ }
-    ensures { λ r. ⌜ now r ≡ textAt (now (bytes .entry)) at ⌝ }
+// Whether the names at two places are the same.
+fn same_at(bytes: &[u8], p: usize, q: usize) -> bool
+    ensures { λ r. ⌜ r ≡ sameText (textAt (now (bytes .entry)) p) (textAt (now (bytes .entry)) q) ⌝ }
 {
-    let from = at + 1;
-    if bytes.len() < from {
-        return &bytes[..0];
-    }
-    let to = from + wide8(at8(bytes, at));
-    if bytes.len() < to {
-        return &bytes[from..];
-    }
-    &bytes[from..to]
+    same(name_at(bytes, p), name_at(bytes, q))
 }
 
 // Whether one of the first n names from `from` on is the one at `at`.
 fn name_there(bytes: &[u8], at: usize, names: &[u16], from: usize, n: usize) -> bool
-    requires { ⌜ at < 2 ^ 63 ⌝ }
     requires { ⌜ from + n < 2 ^ 63 ⌝ }
     ensures { λ r. ⌜ r ≡ nameThere (now (bytes .entry)) at (now (names .entry)) from n ⌝ }
 {
     let mut i = 0;
     while i < n {
-        let p = wide16(at16(names, from + i));
-        if same(name_at(bytes, at), name_at(bytes, p)) {
+        if same_at(bytes, at, wide16(at16(names, from + i))) {
             return true;
         }
         i += 1;
@@ -45,7 +36,6 @@ fn name_there(bytes: &[u8], at: usize, names: &[u16], from: usize, n: usize) -> 
 
 // Whether one of the n fields' labels from `p` on is the one at `at`.
 fn label_there(bytes: &[u8], at: usize, p: usize, n: usize) -> bool
-    requires { ⌜ at < 2 ^ 63 ⌝ }
     requires { ⌜ p < 2 ^ 40 ⌝ }
     requires { ⌜ n < 256 ⌝ }
     ensures { λ r. ⌜ r ≡ any (sameText (textAt (now (bytes .entry)) at)) (labelTexts (now (bytes .entry)) p n) ⌝ }
@@ -53,10 +43,10 @@ fn label_there(bytes: &[u8], at: usize, p: usize, n: usize) -> bool
     let mut q = p;
     let mut left = n;
     while 0 < left {
-        if same(name_at(bytes, at), name_at(bytes, q + 1)) {
+        if same_at(bytes, at, q + 1) {
             return true;
         }
-        q = q + 2 + wide8(at8(bytes, q + 1));
+        q = after_name(bytes, q + 1);
         left -= 1;
     }
     false
@@ -71,14 +61,25 @@ fn labels_twice(bytes: &[u8], p: usize, n: usize) -> bool
     let mut q = p;
     let mut more = n;
     while 0 < more {
-        let next = q + 2 + wide8(at8(bytes, q + 1));
-        if label_there(bytes, q + 1, next, more - 1) {
+        let next = after_name(bytes, q + 1);
+        more -= 1;
+        if label_there(bytes, q + 1, next, more) {
             return true;
         }
         q = next;
-        more -= 1;
     }
     false
+}
+
+// Whether no label is there twice, from the labels' flag on.
+fn labels_new(bytes: &[u8], flag: usize) -> bool
+    requires { ⌜ flag < 2 ^ 33 ⌝ }
+    ensures { λ r. ⌜ r ≡ labelsNew (now (bytes .entry)) flag ⌝ }
+{
+    if at8(bytes, flag) == 0 {
+        return true;
+    }
+    !labels_twice(bytes, flag + 2, wide8(at8(bytes, flag + 1)))
 }
 
 // Whether the constructor's name, at `at`, is new in the type t, and no label is there twice.
@@ -90,9 +91,5 @@ pub fn is_fresh(bytes: &[u8], at: usize, names: &[u16], counts: &[u8], t: usize)
     if name_there(bytes, at, names, 32 * t, wide8(at8(counts, t))) {
         return false;
     }
-    let with = at + 1 + wide8(at8(bytes, at));
-    if at8(bytes, with) == 0 {
-        return true;
-    }
-    !labels_twice(bytes, with + 2, wide8(at8(bytes, with + 1)))
+    labels_new(bytes, after_name(bytes, at))
 }

@@ -17,53 +17,38 @@ abbrev μ-loop : tie.MeasureT-loop
 loop-holds : tie.Need-loop-holds Inv-loop μ-loop
 loop-holds c = (omega arith, omega arith, refl)
 
-add-next : tie.Need-add-next Inv-loop μ-loop
-add-next c = omega arith
+add-after-name : tie.Need-add-after-name Inv-loop μ-loop
+add-after-name c = omega arith
 
-add-at8 : tie.Need-add-at8 Inv-loop μ-loop
-add-at8 c = omega arith
+after-name-requires : tie.Need-after-name-requires Inv-loop μ-loop
+after-name-requires c κs = omega arith
 
-at8-requires : tie.Need-at8-requires Inv-loop μ-loop
-at8-requires c κs = tt
-
-wide8-requires : tie.Need-wide8-requires Inv-loop μ-loop
-wide8-requires c κs = tt
-
-add-next-2 : tie.Need-add-next-2 Inv-loop μ-loop
-add-next-2 c = omega arith
+sub-more : tie.Need-sub-more Inv-loop μ-loop
+sub-more c = omega arith
 
 add-label-there : tie.Need-add-label-there Inv-loop μ-loop
 add-label-there c = omega arith
 
-sub-label-there : tie.Need-sub-label-there Inv-loop μ-loop
-sub-label-there c = omega arith
-
 label-there-requires : tie.Need-label-there-requires Inv-loop μ-loop
-label-there-requires c κs = omega (arith, c .before .before .before .before .before .pre, c .before .at8 .ok, c .wide8 .ensures)
+label-there-requires c κs = omega (arith, c .before .before .before .before .pre, c .after-name .ensures .1)
 
 returns : tie.Need-returns Inv-loop μ-loop
 returns c =
-    let a = c .before .before .before .before .before .before .before .args in
-    let l = c .before .before .before .before .before .loop in
-    let at8 = c .before .before .before .at8 in
-    let wide8 = c .before .before .wide8 in
-    let step = labels-step (a .bytes .now) (l .q) (l .more) (l .more - 1) (wide8 .result) (omega arith) (wide8 .ensures ∙ at8 .ensures) in
+    let a = c .before .before .before .before .before .before .args in
+    let l = c .before .before .before .before .loop in
+    let step = labels-step (a .bytes .now) (l .q) (l .more) (l .more - 1) (c .before .before .after-name .result) (omega arith) (c .before .before .after-name .ensures .0) in
     sym (l .inv .2 ∙ twice-off _ _ _ step (sym (c .before .label-there .ensures) ∙ c .if1 .taken))
-
-sub-more : tie.Need-sub-more Inv-loop μ-loop
-sub-more c = omega arith
 
 loop-less : tie.Need-loop-less Inv-loop μ-loop
 loop-less c = omega arith
 
 loop-again : tie.Need-loop-again Inv-loop μ-loop
 loop-again c =
-    let a = c .before .before .before .before .before .before .before .args in
-    let l = c .before .before .before .before .before .loop in
-    let at8 = c .before .before .before .at8 in
-    let wide8 = c .before .before .wide8 in
-    let step = labels-step (a .bytes .now) (l .q) (l .more) (l .more - 1) (wide8 .result) (omega arith) (wide8 .ensures ∙ at8 .ensures) in
-    (omega arith, omega arith, l .inv .2 ∙ twice-on _ _ _ step (sym (c .before .label-there .ensures) ∙ c .if1 .left))
+    let a = c .before .before .before .before .before .before .args in
+    let l = c .before .before .before .before .loop in
+    let after-name = c .before .before .after-name in
+    let step = labels-step (a .bytes .now) (l .q) (l .more) (l .more - 1) (after-name .result) (omega arith) (after-name .ensures .0) in
+    (omega arith, omega (arith, after-name .ensures .1), l .inv .2 ∙ twice-on _ _ _ step (sym (c .before .label-there .ensures) ∙ c .if1 .left))
 
 returns-2 : tie.Need-returns-2 Inv-loop μ-loop
 returns-2 c =
@@ -78,16 +63,12 @@ labels-twice-spec =
     Inv-loop
     μ-loop
     loop-holds
-    add-next
-    add-at8
-    at8-requires
-    wide8-requires
-    add-next-2
+    add-after-name
+    after-name-requires
+    sub-more
     add-label-there
-    sub-label-there
     label-there-requires
     returns
-    sub-more
     loop-less
     loop-again
     returns-2)

@@ -1,5 +1,5 @@
 -- `fresh::name_there` meets its contract: the names that are left decide.
-use mathlib.Core.Path.{_≡_, sym, ap, ap₂, _∙_}
+use mathlib.Core.Path.{_≡_, sym, ap, _∙_}
 use Prim.Native.Nat.{_+_, _-_, _≤_}
 use native.Mathlib.Omega.{arith}
 use Rattle.scope.specs.Lists.{any, same as sameText}
@@ -31,24 +31,14 @@ at16-requires c κs = tt
 wide16-requires : tie.Need-wide16-requires Inv-loop μ-loop
 wide16-requires c κs = tt
 
-name-at-requires : tie.Need-name-at-requires Inv-loop μ-loop
-name-at-requires c κs = omega arith
-
-name-at-requires-2 : tie.Need-name-at-requires-2 Inv-loop μ-loop
-name-at-requires-2 c κs = omega (arith, c .before .before .at16 .ok)
-
-same-requires : tie.Need-same-requires Inv-loop μ-loop
-same-requires c κs = tt
+same-at-requires : tie.Need-same-at-requires Inv-loop μ-loop
+same-at-requires c κs = tt
 
 returns : tie.Need-returns Inv-loop μ-loop
 returns c =
-    let a = c .before .before .before .before .before .before .before .before .before .before .args in
-    let l = c .before .before .before .before .before .before .before .loop in
-    let at16 = c .before .before .before .before .before .at16 in
-    let wide16 = c .before .before .before .before .wide16 in
-    let name-at = c .before .before .before .name-at in
-    let place = wide16 .ensures ∙ at16 .ensures in
-    let found = sym (c .before .same .ensures ∙ ap₂ sameText (name-at .ensures) (c .before .before .name-at2 .ensures ∙ ap (textAt (a .bytes .now)) place)) ∙ c .if1 .taken in
+    let a = c .before .before .before .before .before .before .before .before .args in
+    let l = c .before .before .before .before .before .loop in
+    let found = sym (c .before .same-at .ensures ∙ ap (λ p. sameText (textAt (a .bytes .now) (a .at)) (textAt (a .bytes .now) p)) (c .before .before .wide16 .ensures ∙ c .before .before .before .at16 .ensures)) ∙ c .if1 .taken in
     sym (l .inv .1 ∙ any-off (λ p. sameText (textAt (a .bytes .now) (a .at)) (textAt (a .bytes .now) p)) _ _ _ (reads-step (a .names .now) (a .from) (l .i) (a .n) (omega arith)) found)
 
 add-i : tie.Need-add-i Inv-loop μ-loop
@@ -59,13 +49,9 @@ loop-less c = omega arith
 
 loop-again : tie.Need-loop-again Inv-loop μ-loop
 loop-again c =
-    let a = c .before .before .before .before .before .before .before .before .before .before .args in
-    let l = c .before .before .before .before .before .before .before .loop in
-    let at16 = c .before .before .before .before .before .at16 in
-    let wide16 = c .before .before .before .before .wide16 in
-    let name-at = c .before .before .before .name-at in
-    let place = wide16 .ensures ∙ at16 .ensures in
-    let other = sym (c .before .same .ensures ∙ ap₂ sameText (name-at .ensures) (c .before .before .name-at2 .ensures ∙ ap (textAt (a .bytes .now)) place)) ∙ c .if1 .left in
+    let a = c .before .before .before .before .before .before .before .before .args in
+    let l = c .before .before .before .before .before .loop in
+    let other = sym (c .before .same-at .ensures ∙ ap (λ p. sameText (textAt (a .bytes .now) (a .at)) (textAt (a .bytes .now) p)) (c .before .before .wide16 .ensures ∙ c .before .before .before .at16 .ensures)) ∙ c .if1 .left in
     (omega arith, l .inv .1 ∙ any-on (λ p. sameText (textAt (a .bytes .now) (a .at)) (textAt (a .bytes .now) p)) _ _ _ (reads-step (a .names .now) (a .from) (l .i) (a .n) (omega arith)) other)
 
 returns-2 : tie.Need-returns-2 Inv-loop μ-loop
@@ -84,9 +70,7 @@ name-there-spec =
     add-at16
     at16-requires
     wide16-requires
-    name-at-requires
-    name-at-requires-2
-    same-requires
+    same-at-requires
     returns
     add-i
     loop-less
