@@ -44,7 +44,7 @@ module _ (file : List ℕ) (h : read.Held) (subject clauses types : ℕ) (b : Bl
     holding = record {
       shape = x .holds .shape;
       rows = x .rowsAre;
-      literals = record { each = λ i j l m n. let w = block-literal x i j l m n in record { known = w .known; whole = w .whole } };
+      literals = record { each = block-literal x };
       typed = x .typed;
     };
     tabled = λ nodes. record {

@@ -1,9 +1,10 @@
 -- Simplified patterns in slices: `nodes`, and `left`, how many patterns of its row are left from a place on.
 use mathlib.Core.Path.{_≡_}
 use mathlib.Core.Bool.{cond}
+use mathlib.Core.Logic.{_⊎_}
 use mathlib.Core.List.{List, [], _∷_, _++_, map}
 use Prim.Native.Nat.{ℕ, zero, suc, _+_, _-_, _/_, _%_, _≤_, _<_}
-use lib.ListN.{length, getD, take, drop, replicate}
+use lib.ListN.{length, getD, take, drop}
 use lib.Dec.{ltb, eqb}
 use Rattle.scope.specs.Types.{Table, arity}
 use Rattle.scope.specs.Patterns.{Literal, int, byteArray, Node, wild, lit, con, Row, Matrix}
@@ -32,6 +33,21 @@ rowOf bytes ns = map (nodeOf bytes) ns
 unfoldable pub leftOf : Table → ℕ → Row → List ℕ
 leftOf table k [] = 0 ∷ []
 leftOf table k (x ∷ r) = k ∷ leftOf table (k - 1 + arguments table x) r
+
+-- the literal at a place stands whole among the bytes: its kind, 03 or 04, its length, its text
+pub record LiteralStands (bytes : List ℕ) (p : ℕ) : Type 0 where
+  pub known : (getD bytes p 0 ≡ 3) ⊎ (getD bytes p 0 ≡ 4)
+  pub whole : p + 2 + getD bytes (p + 1) 0 ≤ length bytes
+
+-- every literal among the nodes stands whole among the bytes
+pub data Literals (bytes : List ℕ) : List ℕ → Type 0 where
+  done : Literals bytes []
+  also : {n : ℕ} {ns : List ℕ} → (32768 ≤ n → LiteralStands bytes (n - 32768)) → Literals bytes ns → Literals bytes (n ∷ ns)
+
+-- the places of the literals among nodes
+unfoldable pub placesIn : List ℕ → List ℕ
+placesIn [] = []
+placesIn (n ∷ ns) = cond (ltb n 32768) [] ((n - 32768) ∷ []) ++ placesIn ns
 
 -- the row of one pattern that stands at a place: its nodes, `left` beside them, and the terminator
 pub record StandsAt (bytes nodes left : List ℕ) (table : Table) (p : ℕ) (r : Row) : Type 0 where

@@ -11,13 +11,14 @@ use lib.Dec.{ltb}
 use borrow.Author.Tests.{ltb-true, ltb-false}
 use Rattle.scope.proofs.Tests.{clash}
 use Rattle.laws.proofs.Typing.{simplify-typed}
-use Rattle.scope.specs.Types.{Ref, Ty, opaque, Table, ctorsAt, ctors, fieldsAt, arity}
+use Rattle.scope.specs.Types.{Ref, Ty, opaque, Table, ctorsAt, ctors, fieldsAt}
 use Rattle.scope.specs.Patterns.{Node, wild, lit, con, Row, Typed, Raw, simplify}
-use Rattle.scope.specs.Frames.{patterns}
 use Rattle.layout.specs.Types.{Shape}
 use Rattle.layout.specs.Nodes.{nodeOf, rowOf, leftOf}
 use Rattle.layout.specs.Nodes as Nodes
-use Rattle.patterns.specs.Rows.{low16, arityOf, leftsOf, Given, Answers, Beside, Reading, Simplifies}
+use Rattle.nodes.specs.Keys.{low16}
+use Rattle.nodes.specs.Lefts.{arityOf, leftsOf}
+use Rattle.patterns.specs.Rows.{Given, Answers, Beside, Reading, Simplifies}
 use Rattle.patterns.specs.declared.Simplified.{Simplified}
 use Rattle.patterns.specs.declared.Simplified.the-variants.{Row as Kept, Unsuited}
 

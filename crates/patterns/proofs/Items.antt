@@ -13,7 +13,7 @@ use Rattle.scope.specs.Lists.{all, flatten}
 use Rattle.scope.specs.Types.{Ref, Ctor, Ty, integer, byteString, opaque, list, tuple, pair, dat, Table, typeAt, kind, built, fieldsOf, ctorsAt, ctors, fieldsAt, arity, refs, isRef, refsGood}
 use Rattle.scope.specs.Patterns.{int, byteArray, Node, wild, lit, con, Row, Raw, discard, variable, assign, pairOf, number, string, listOf, constructor, tupleOf, Item, put, pat, suiting, cells, enough, arguments, whole, opened, simplified}
 use Rattle.layout.specs.Nodes.{nodeOf, rowOf}
-use Rattle.patterns.proofs.Facts.{list-facts}
+use Rattle.suits.proofs.Facts.{list-facts}
 
 -- nodes in front of what is still to come
 abbrev pub onto : Row → Option Row → Option Row

@@ -1,10 +1,4 @@
--- What is shown of one pattern, of the stack, of reading and of rows; callers cite Rows.
-pub mod Small
-pub mod Facts
-pub mod Stack
-pub mod Lefts
-pub mod Settled
-pub mod Suiting
+-- What is shown of one pattern read after another and of rows; callers cite Rows.
 pub mod Turns
 pub mod Scan
 pub mod Items

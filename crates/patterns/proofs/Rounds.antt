@@ -10,16 +10,16 @@ use lib.Seq.{sets}
 use Rattle.scope.proofs.Tests.{clash}
 use Rattle.laws.proofs.Reading.{patterns-none}
 use Rattle.scope.specs.Types.{Table}
-use Rattle.scope.specs.Patterns.{Row, Raw, inner, Item, put, pat, simplified, simplify}
+use Rattle.scope.specs.Patterns.{Row, Raw, inner, Item, pat, simplified, simplify}
 use Rattle.scope.specs.Frames.{Read, found, patterns}
-use Rattle.layout.specs.Nodes.{nodeOf, rowOf}
-use Rattle.patterns.specs.Raws.{rawAt, sizeAt, Literals, done, ownPlace, literalPlaces, placesIn}
-use Rattle.patterns.specs.Opens.{opens, pending, due}
-use Rattle.patterns.specs.Rows.{Ready, Given, Turned, Answers, Reading}
-use Rattle.patterns.specs.declared.Next.the-variants.{Read as Next·Read, Done, Wrong}
+use Rattle.layout.specs.Nodes.{nodeOf, rowOf, Literals, done, placesIn}
+use Rattle.nodes.proofs.Runs.{stores, literals-append, places-append}
+use Rattle.suits.specs.Raws.{rawAt, sizeAt, ownPlace}
+use Rattle.opens.specs.Opens.{opens, pending, due}
+use Rattle.settle.specs.declared.Next.the-variants.{Read as Next·Read, Done, Wrong}
+use Rattle.patterns.specs.Rows.{literalPlaces, Ready, Given, Turned, Answers, Reading}
 use Rattle.patterns.specs.declared.Simplified.{Simplified}
 use Rattle.patterns.specs.declared.Simplified.the-variants.{Row as Kept, Unsuited}
-use Rattle.patterns.proofs.Settled.{literals-append, places-append, stores}
 use Rattle.patterns.proofs.Scan.{read-step}
 use Rattle.patterns.proofs.Items.{onto, onto-none, onto-onto, put-all, read-one, read-none, read-end, Refs, nothing, refs-append, refs-after, refs-next, opened-refs}
 

@@ -3,23 +3,21 @@ use mathlib.Core.Path.{_≡_, refl, sym, ap, ap₂, subst, _∙_}
 use mathlib.Core.Bool.{Bool, true, false, cond}
 use mathlib.Core.Logic.{inl, inr, ⊎-elim}
 use mathlib.Core.List.{List, [], _∷_, _++_}
-use mathlib.Core.Option.{Option, none, some}
-use Prim.Native.Nat.{ℕ, zero, suc, _+_, _*_, _-_, _/_, _%_, _≤_, _<_}
+use mathlib.Core.Option.{Option, some}
+use Prim.Native.Nat.{ℕ, zero, suc, _+_, _-_, _/_, _%_, _≤_, _<_}
 use native.Mathlib.Omega.{arith}
 use native.Mathlib.Numerals.{add-one}
 use lib.ListN.{length, getD, take, drop, set, length-set, length-append, length-drop, length-map, List·getD-append}
-use lib.Seq.{sets, length-sets, take-take, take-at, take-append-le, drop-append-le, take-set-le, drop-set-lt, getD-set-same, getD-take}
-use lib.Dec.{ltb, leb}
-use borrow.Author.Tests.{ltb-true, ltb-false, leb-true, leb-false, lt-ltb, le-ltb}
-use Rattle.scope.proofs.Tests.{clash}
+use lib.Seq.{sets, length-sets, take-take, take-at, take-append-le, drop-append-le, take-set-le, getD-set-same, getD-take}
+use lib.Dec.{ltb}
+use borrow.Author.Tests.{ltb-false}
 use Rattle.cells.proofs.Laws.{sets-sets}
 use Rattle.scope.specs.Types.{Table}
-use Rattle.scope.specs.Patterns.{Node, wild, lit, con, Row, Raw, simplify}
+use Rattle.scope.specs.Patterns.{lit, con, Row, Raw, simplify}
 use Rattle.scope.specs.Frames.{found, patterns}
 use Rattle.layout.specs.Types.{textAt}
-use Rattle.layout.specs.Nodes.{literalAt, nodeOf, rowOf, leftOf}
+use Rattle.layout.specs.Nodes.{literalAt, nodeOf, rowOf, leftOf, LiteralStands, Literals, done, also}
 use Rattle.layout.specs.Nodes as Nodes
-use Rattle.patterns.specs.Raws.{WholeAt, Literals, done, also, placesIn}
 use Rattle.patterns.specs.Rows.{Given, Answers, Beside, Simplifies, RowAt}
 use Rattle.patterns.specs.declared.Simplified.{Simplified}
 use Rattle.patterns.proofs.Beside.{run-there}
@@ -28,11 +26,6 @@ use Rattle.patterns.proofs.Beside.{run-there}
 sets-before : (vs d : List ℕ) (at n : ℕ) → n ≤ at → take n (sets d at vs) ≡ take n d
 sets-before [] d at n h = refl
 sets-before (v ∷ vs) d at n h = sets-before vs (set d at v) (suc at) n (omega arith) ∙ take-set-le n d at v h
-
--- and what is after them
-sets-beyond : (vs d : List ℕ) (at n : ℕ) → at + length vs ≤ n → drop n (sets d at vs) ≡ drop n d
-sets-beyond [] d at n h = refl
-sets-beyond (v ∷ vs) d at n h = sets-beyond vs (set d at v) (suc at) n (omega arith) ∙ drop-set-lt n d at v (omega arith)
 
 -- a part of what is before a place
 part-before : (p n used : ℕ) (d : List ℕ) → p + n ≤ used → take n (drop p (take used d)) ≡ take n (drop p d)
@@ -66,10 +59,10 @@ run-closed d d′ d″ vs used n e m l f =
 
 module _ {bytes : List ℕ} {from : ℕ} {kinds counts arities starts fields : List ℕ} {subject used : ℕ} {nodes left nodes′ left′ : List ℕ} {r : Simplified} (s : Simplifies bytes from kinds counts arities starts fields subject used nodes left nodes′ left′ r) where
   -- what stands before `used` is kept
-  pub nodes-before : take used nodes′ ≡ take used nodes
+  nodes-before : take used nodes′ ≡ take used nodes
   nodes-before = ap (take used) (s .nodesAre) ∙ sets-before (s .new) nodes used used (omega arith)
 
-  pub left-before : take used left′ ≡ take used left
+  left-before : take used left′ ≡ take used left
   left-before = ap (take used) (s .leftAre) ∙ sets-before (s .lefts) left used used (omega arith)
 
   -- with the terminator written too
@@ -78,13 +71,6 @@ module _ {bytes : List ℕ} {from : ℕ} {kinds counts arities starts fields : L
 
   pub left-closed : (n : ℕ) → take used (set left′ (used + n) 0) ≡ take used left
   left-closed n = take-set-le used left′ (used + n) 0 (omega arith) ∙ left-before
-
-  -- and what stands after the nodes
-  pub nodes-beyond : drop (used + length (s .new)) nodes′ ≡ drop (used + length (s .new)) nodes
-  nodes-beyond = ap (drop (used + length (s .new))) (s .nodesAre) ∙ sets-beyond (s .new) nodes used (used + length (s .new)) (omega arith)
-
-  pub left-beyond : drop (used + length (s .lefts)) left′ ≡ drop (used + length (s .lefts)) left
-  left-beyond = ap (drop (used + length (s .lefts))) (s .leftAre) ∙ sets-beyond (s .lefts) left used (used + length (s .lefts)) (omega arith)
 
   -- the row with its terminator
   pub row-stands : (raws : List Raw) → patterns 1 (drop from bytes) ≡ found raws [] → (table : Table) → Given kinds counts arities starts fields subject table
@@ -136,13 +122,13 @@ module _ (bytes more : List ℕ) where
       ap₂ (λ (n : ℕ) (l : List ℕ). take n l) (at-grown p (omega arith)) (drop-append-le (suc p) bytes more (omega arith))
       ∙ take-append-le (getD bytes p 0) (drop (suc p) bytes) more (omega (arith, length-drop (suc p) bytes))
 
-  literal-grown : (p : ℕ) → WholeAt bytes p → literalAt (bytes ++ more) p ≡ literalAt bytes p
+  literal-grown : (p : ℕ) → LiteralStands bytes p → literalAt (bytes ++ more) p ≡ literalAt bytes p
   unfolding literalAt
   literal-grown p h =
       let l : suc p + 1 + getD bytes (suc p) 0 ≤ length bytes = omega (arith, h .whole, ap (λ (i : ℕ). getD bytes i 0) (add-one p)) in
       rw (at-grown p (omega (arith, h .whole)), text-grown (suc p) l)
 
-  node-grown : (n : ℕ) → (32768 ≤ n → WholeAt bytes (n - 32768)) → nodeOf (bytes ++ more) n ≡ nodeOf bytes n
+  node-grown : (n : ℕ) → (32768 ≤ n → LiteralStands bytes (n - 32768)) → nodeOf (bytes ++ more) n ≡ nodeOf bytes n
   unfolding nodeOf
   node-grown zero h = refl
   node-grown (suc i) h = go (ltb i 32767) refl
@@ -152,7 +138,7 @@ module _ (bytes more : List ℕ) where
       go false e =
           let l : 32767 ≤ i = ltb-false i 32767 e in
           let m : suc i - 32768 ≡ i - 32767 = omega arith in
-          ap lit (literal-grown (i - 32767) (subst (λ (p : ℕ). WholeAt bytes p) m (h (omega arith))))
+          ap lit (literal-grown (i - 32767) (subst (λ (p : ℕ). LiteralStands bytes p) m (h (omega arith))))
 
   nodes-grown : (ns : List ℕ) → Literals bytes ns → rowOf (bytes ++ more) ns ≡ rowOf bytes ns
   nodes-grown [] done = refl
@@ -162,7 +148,7 @@ module _ (bytes more : List ℕ) where
   literals-grown done = done
   literals-grown (also {n} h q) = also (λ l. whole-grown (n - 32768) (h l)) (literals-grown q)
     where
-      whole-grown : (p : ℕ) → WholeAt bytes p → WholeAt (bytes ++ more) p
+      whole-grown : (p : ℕ) → LiteralStands bytes p → LiteralStands (bytes ++ more) p
       whole-grown p w =
           let same : getD (bytes ++ more) p 0 ≡ getD bytes p 0 = at-grown p (omega (arith, w .whole)) in
           record { known = ⊎-elim (λ k. inl (same ∙ k)) (λ k. inr (same ∙ k)) (w .known); whole = omega (arith, w .whole, at-grown (p + 1) (omega (arith, w .whole)), length-append bytes more) }
@@ -179,78 +165,3 @@ module _ (bytes more : List ℕ) where
         };
         whole = literals-grown (a .whole);
       }
-
--- the number of a node that is no literal
-abbrev numberOf : Node → ℕ
-numberOf wild = 0
-numberOf (con t c) = suc (32 * t + c)
-numberOf (lit l) = 32768
-
-number-plain : (bytes : List ℕ) (n : ℕ) → n < 32768 → numberOf (nodeOf bytes n) ≡ n
-unfolding nodeOf
-number-plain bytes zero l = refl
-number-plain bytes (suc i) l = rw (lt-ltb i 32767 (omega arith)) (omega arith)
-
-number-literal : (bytes : List ℕ) (n : ℕ) → 32768 ≤ n → numberOf (nodeOf bytes n) ≡ 32768
-unfolding nodeOf
-number-literal bytes zero l = absurd (omega arith)
-number-literal bytes (suc i) l = rw (le-ltb i 32767 (omega arith))
-
--- a row's nodes and its literals' places are its numbers
-numbers-same : (bytes a b : List ℕ) → rowOf bytes a ≡ rowOf bytes b → placesIn a ≡ placesIn b → a ≡ b
-unfolding placesIn
-numbers-same bytes [] [] e f = refl
-numbers-same bytes [] (y ∷ b) e f = clash (cc)
-numbers-same bytes (x ∷ a) [] e f = clash (cc)
-numbers-same bytes (x ∷ a) (y ∷ b) e f = go (ltb x 32768) (ltb y 32768) refl refl f (λ h. numbers-same bytes a b rows h)
-  where
-    heads : nodeOf bytes x ≡ nodeOf bytes y
-    heads = cc
-
-    rows : rowOf bytes a ≡ rowOf bytes b
-    rows = cc
-
-    go : (u v : Bool) → ltb x 32768 ≡ u → ltb y 32768 ≡ v → cond u [] ((x - 32768) ∷ []) ++ placesIn a ≡ cond v [] ((y - 32768) ∷ []) ++ placesIn b → (placesIn a ≡ placesIn b → a ≡ b) → (x ∷ a) ≡ (y ∷ b)
-    go true true i j h deeper =
-        let p : x ≡ y = sym (number-plain bytes x (ltb-true x 32768 i)) ∙ ap numberOf heads ∙ number-plain bytes y (ltb-true y 32768 j) in
-        ap₂ _∷_ p (deeper h)
-    go true false i j h deeper = absurd (omega (arith, ltb-true x 32768 i, number-plain bytes x (ltb-true x 32768 i), number-literal bytes y (ltb-false y 32768 j), ap numberOf heads))
-    go false true i j h deeper = absurd (omega (arith, ltb-true y 32768 j, number-plain bytes y (ltb-true y 32768 j), number-literal bytes x (ltb-false x 32768 i), ap numberOf heads))
-    go false false i j h deeper =
-        let d : x - 32768 ≡ y - 32768 = cc in
-        let p : x ≡ y = omega (arith, ltb-false x 32768 i, ltb-false y 32768 j) in
-        let q : placesIn a ≡ placesIn b = cc in
-        ap₂ _∷_ p (deeper q)
-
-module _ {bytes : List ℕ} {from : ℕ} {kinds counts arities starts fields : List ℕ} {subject used : ℕ} {nodes left nodes₁ left₁ nodes₂ left₂ : List ℕ} {r₁ r₂ : Simplified}
-    (s₁ : Simplifies bytes from kinds counts arities starts fields subject used nodes left nodes₁ left₁ r₁) (s₂ : Simplifies bytes from kinds counts arities starts fields subject used nodes left nodes₂ left₂ r₂)
-    (raws : List Raw) (e : patterns 1 (drop from bytes) ≡ found raws []) (table : Table) (g : Given kinds counts arities starts fields subject table) where
-  means₁ : (o : Option Row) → simplify table subject raws ≡ o → Answers bytes (s₁ .new) o r₁ × Beside used (length nodes) table o (s₁ .lefts)
-  means₁ o i = subst (λ (x : Option Row). Answers bytes (s₁ .new) x r₁ × Beside used (length nodes) table x (s₁ .lefts)) i (s₁ .means raws e table g)
-
-  means₂ : (o : Option Row) → simplify table subject raws ≡ o → Answers bytes (s₂ .new) o r₂ × Beside used (length nodes) table o (s₂ .lefts)
-  means₂ o i = subst (λ (x : Option Row). Answers bytes (s₂ .new) x r₂ × Beside used (length nodes) table x (s₂ .lefts)) i (s₂ .means raws e table g)
-
-  same-lefts : s₁ .lefts ≡ s₂ .lefts → left₁ ≡ left₂
-  same-lefts h = s₁ .leftAre ∙ ap (sets left used) h ∙ sym (s₂ .leftAre)
-
-  -- any two outcomes for a pattern that suits are equal
-  pub one-row : (row : Row) → simplify table subject raws ≡ some row → (r₁ ≡ r₂) × (nodes₁ ≡ nodes₂) × (left₁ ≡ left₂)
-  one-row row i =
-      let a = means₁ (some row) i in
-      let b = means₂ (some row) i in (
-        a .0 .0 ∙ sym (b .0 .0),
-        s₁ .nodesAre ∙ ap (sets nodes used) (numbers-same bytes (s₁ .new) (s₂ .new) (a .0 .1 ∙ sym (b .0 .1)) (s₁ .places (length row) (a .0 .0) raws e ∙ sym (s₂ .places (length row) (b .0 .0) raws e))) ∙ sym (s₂ .nodesAre),
-        same-lefts (go (leb (used + length row) (length nodes)) refl (a .1) (b .1)),
-      )
-    where
-      go : (f : Bool) → leb (used + length row) (length nodes) ≡ f → Beside used (length nodes) table (some row) (s₁ .lefts) → Beside used (length nodes) table (some row) (s₂ .lefts) → s₁ .lefts ≡ s₂ .lefts
-      go true h a b = let l = leb-true (used + length row) (length nodes) h in a .0 l ∙ sym (b .0 l)
-      go false h a b = let l = leb-false (used + length row) (length nodes) h in a .1 l ∙ sym (b .1 l)
-
-  -- of one that does not suit, all but the nodes from `used` on
-  pub one-refusal : simplify table subject raws ≡ none → (r₁ ≡ r₂) × (take used nodes₁ ≡ take used nodes₂) × (left₁ ≡ left₂)
-  one-refusal i =
-      let a = means₁ none i in
-      let b = means₂ none i in
-      (a .0 ∙ sym (b .0), nodes-before s₁ ∙ sym (nodes-before s₂), same-lefts (a .1 ∙ sym (b .1)))

@@ -16,7 +16,7 @@ use Rattle.scope.specs.Lists.{Text, among}
 use Rattle.scope.specs.Patterns.{Raw, discard, variable, assign, pairOf, number, string, listOf, constructor, tupleOf, inner}
 use Rattle.scope.specs.Frames.{Read, fault, found, Reader, andThen, _>>=_, give, byte, passing, within, flag, times, judging, name, text, smallName, isDecimal, pattern, patterns}
 use Rattle.layout.specs.Types.{textAt}
-use Rattle.patterns.specs.Raws.{rawAt, sizeAt}
+use Rattle.suits.specs.Raws.{rawAt, sizeAt}
 
 -- what was found by one reader after another
 bind-found : {A B : Type 0} (x : Read A) (f : A → Reader B) (b : B) (rest : List ℕ) → andThen x f ≡ found b rest → (a : A) × (mid : List ℕ) × (x ≡ found a mid) × (f a mid ≡ found b rest)
@@ -217,3 +217,9 @@ module _ (bytes : List ℕ) (at : ℕ) where
         omega (arith, f .some, size-shift),
         omega (arith, f .some, f .inside, size-shift, length-drop at bytes),
       )
+
+module _ (bytes : List ℕ) (at w : ℕ) (wIs : w ≡ getD bytes at 0) where
+  -- the size by the kind
+  pub sized : (l k : ℕ) → l ≡ getD bytes (at + 1) 0 → w ≡ k → at + getD (1 ∷ (2 + l) ∷ (2 + l) ∷ (2 + l) ∷ (2 + l) ∷ 3 ∷ 4 ∷ 1 ∷ []) k 2 ≡ at + sizeAt bytes at
+  unfolding sizeAt
+  sized l k lIs e = rw (← wIs, e, lIs)

@@ -6,26 +6,29 @@ use mathlib.Core.Option.{Option, some}
 use Prim.Native.Nat.{ℕ, zero, suc, _+_, _*_, _-_, _/_, _%_, _≤_, _<_}
 use native.Mathlib.Nat.{add-zero}
 use native.Mathlib.Omega.{arith}
-use native.Mathlib.Numerals.{add-one}
 use lib.ListN.{length, getD, take, drop, set, replicate, length-append, length-take, length-drop}
 use lib.Seq.{sets, drop-cons, take-take, getD-take, getD-drop}
 use borrow.Author.Tests.{le-leb, lt-leb, eq-eqb, ne-eqb}
 use Rattle.scope.specs.Lists.{bit}
-use Rattle.scope.specs.Types.{list, Table, typeAt, kind, ctors, fieldsAt, arity}
+use Rattle.scope.specs.Types.{Table, typeAt, kind, ctors, fieldsAt, arity}
 use Rattle.scope.specs.Patterns.{Node, wild, con, inner, Item, put, pat, cells, opened}
 use Rattle.layout.specs.Types.{Shape, Fielded}
-use Rattle.layout.specs.Nodes.{nodeOf, rowOf}
-use Rattle.patterns.specs.Raws.{rawAt, sizeAt, WholeAt, Literals, done, also, ownPlace, placesIn}
-use Rattle.patterns.specs.Suits.{keyOf, suitAt, meant, Sound}
-use Rattle.patterns.specs.Opens.{Open, opening, markOf, fieldItems, listItems, itemsOf, wanted, opens, pending, due, restOf, Due, Ends, Settled}
-use Rattle.patterns.specs.Rows.{low16, Became, Unless, Turned}
-use Rattle.patterns.specs.declared.Suit.{Suit}
-use Rattle.patterns.specs.declared.Suit.the-variants.{Leaf, Again, Cells, Args, Unfit}
-use Rattle.patterns.specs.declared.Next.{Next}
-use Rattle.patterns.specs.declared.Next.the-variants.{Read, Done, Wrong}
-use Rattle.patterns.proofs.Facts.{list-facts}
-use Rattle.patterns.proofs.Settled.{literals-append, places-append, plain-one, puts-append, stores}
-use Rattle.patterns.proofs.Suiting.{Counted, counted, key-node, agree}
+use Rattle.layout.specs.Nodes.{nodeOf, rowOf, LiteralStands, Literals, done, also, placesIn}
+use Rattle.nodes.specs.Keys.{low16, keyOf}
+use Rattle.nodes.proofs.Runs.{stores, puts-append, literals-append, places-append, plain-one, no-places}
+use Rattle.nodes.proofs.Numbers.{key-node}
+use Rattle.suits.specs.Raws.{rawAt, sizeAt, ownPlace}
+use Rattle.suits.specs.Suits.{suitAt, meant, Sound}
+use Rattle.suits.specs.declared.Suit.{Suit}
+use Rattle.suits.specs.declared.Suit.the-variants.{Leaf, Again, Cells, Args, Unfit}
+use Rattle.suits.proofs.Facts.{list-facts}
+use Rattle.suits.proofs.Suiting.{Counted, counted, agree}
+use Rattle.opens.specs.Opens.{opening, markOf, fieldItems, listItems, itemsOf, wanted, opens, pending, due}
+use Rattle.opens.specs.declared.Open.{Open}
+use Rattle.settle.specs.Settled.{restOf, Due, Ends, Settled}
+use Rattle.settle.specs.declared.Next.{Next}
+use Rattle.settle.specs.declared.Next.the-variants.{Read, Done, Wrong}
+use Rattle.patterns.specs.Rows.{Became, Unless, Turned}
 
 -- the types of fields that stand among the fields
 field-items : (k : ℕ) (fields : List ℕ) (start : ℕ) → start + k ≤ length fields → length fields ≤ 65536 → fieldItems k fields start ≡ map pat (take k (drop start fields))
@@ -84,22 +87,17 @@ module _ (kinds counts arities starts fields : List ℕ) (table : Table) (used :
           let od : (32768 + 2 * t + 0) % 2 ≡ 1 → ⊥ = λ i. omega arith in
           rw (le-leb 32768 (32768 + 2 * t + 0) (omega arith), ty, ne-eqb ((32768 + 2 * t + 0) % 2) 1 od, key-node bytes t 0 (omega (arith, shape .few)) (omega arith), key-node bytes t 1 (omega (arith, shape .few)) (omega arith), element start h e)
 
--- nothing is put for a pattern that is no literal
-none-placed : {l : List ℕ} → l ≡ [] → placesIn [] ≡ l
-unfolding placesIn
-none-placed e = sym e
-
 -- how many patterns a pushed list reads
-cells-wanted : (t k start : ℕ) (tail : Bool) → wanted (opening (markOf t tail) k start) ≡ k + bit tail
+cells-wanted : (t k : ℕ) (tail : Bool) → wanted (markOf t tail) k ≡ k + bit tail
 unfolding wanted
-cells-wanted t k start true = let od : (32768 + 2 * t + 1) % 2 ≡ 1 = omega arith in rw (le-leb 32768 (32768 + 2 * t + 1) (omega arith), eq-eqb ((32768 + 2 * t + 1) % 2) 1 od)
-cells-wanted t k start false = let od : (32768 + 2 * t + 0) % 2 ≡ 1 → ⊥ = λ i. omega arith in rw (le-leb 32768 (32768 + 2 * t + 0) (omega arith), ne-eqb ((32768 + 2 * t + 0) % 2) 1 od)
+cells-wanted t k true = let od : (32768 + 2 * t + 1) % 2 ≡ 1 = omega arith in rw (le-leb 32768 (32768 + 2 * t + 1) (omega arith), eq-eqb ((32768 + 2 * t + 1) % 2) 1 od)
+cells-wanted t k false = let od : (32768 + 2 * t + 0) % 2 ≡ 1 → ⊥ = λ i. omega arith in rw (le-leb 32768 (32768 + 2 * t + 0) (omega arith), ne-eqb ((32768 + 2 * t + 0) % 2) 1 od)
 
-args-wanted : (w k start : ℕ) → w < 256 → wanted (opening w k start) ≡ k
+args-wanted : (w k : ℕ) → w < 256 → wanted w k ≡ k
 unfolding wanted
-args-wanted w k start l = rw (lt-leb 32768 w (omega arith))
+args-wanted w k l = rw (lt-leb 32768 w (omega arith))
 
-due-cons : (f : Open) (fs : List Open) → due (f ∷ fs) ≡ wanted f + due fs
+due-cons : (f : Open) (fs : List Open) → due (f ∷ fs) ≡ wanted (f .what) (f .more) + due fs
 unfolding due
 due-cons f fs = refl
 
@@ -185,18 +183,18 @@ module _ (bytes kinds counts arities starts fields : List ℕ) (at t depth place
           nodesAre = refl;
           few = omega arith;
           whole = λ i. done;
-          places = none-placed (known Again e .1);
+          places = no-places ∙ sym (known Again e .1);
           ends = (sym (add-zero place), sound, omega arith);
           dueIs = omega (arith, known Again e .0);
           became = λ table used shape fielded here. (pat t ∷ [], sym (meaning Again e table shape here .0), refl);
         }
 
-    pub turn-leaf : (n from : ℕ) (nodes₁ stack′ nodes′ : List ℕ) (r : Next) → Leaf n ≡ suitAt bytes at kinds counts arities t → nodes₁ ≡ set nodes place n → from ≡ place + 1
-        → Settled bytes fields (opens stack depth) depth from nodes₁ stack′ nodes′ r → Turned bytes kinds counts arities starts fields at t depth place stack nodes stack′ nodes′ r
-    turn-leaf n from nodes₁ stack′ nodes′ r e f g s =
+    pub turn-leaf : (n : ℕ) (stack′ nodes′ : List ℕ) (r : Next) → Leaf n ≡ suitAt bytes at kinds counts arities t
+        → Settled bytes fields (opens stack depth) depth (place + 1) (set nodes place n) stack′ nodes′ r → Turned bytes kinds counts arities starts fields at t depth place stack nodes stack′ nodes′ r
+    turn-leaf n stack′ nodes′ r e s =
         let k = known (Leaf n) e in
-        turn-settled (n ∷ []) nodes₁ stack′ nodes′ (opens stack depth) depth from r f g (omega arith) (omega arith)
-        (λ i. also (λ h. subst (λ (x : ℕ). WholeAt bytes x) (place-is k h) (record { known = k .2 h .2; whole = omega (arith, k .2 h .1) })) done)
+        turn-settled (n ∷ []) (set nodes place n) stack′ nodes′ (opens stack depth) depth (place + 1) r refl refl (omega arith) (omega arith)
+        (λ i. also (λ h. subst (λ (x : ℕ). LiteralStands bytes x) (place-is k h) (record { known = k .2 h .2; whole = omega (arith, k .2 h .1) })) done)
         (k .1 ∙ ap (λ (x : ℕ). ownPlace x (rawAt bytes at)) here-is)
         (omega (arith, k .0))
         (λ table used shape fielded here. (put (nodeOf bytes n) ∷ [], sym (meaning (Leaf n) e table shape here .0), refl))
@@ -208,38 +206,38 @@ module _ (bytes kinds counts arities starts fields : List ℕ) (at t depth place
         here-is : at % 32768 ≡ at
         here-is = omega arith
 
-    pub turn-cells : (k start : ℕ) (tail : Bool) (stack₁ stack′ nodes′ : List ℕ) (r : Next) → Cells k tail ≡ suitAt bytes at kinds counts arities t → start ≡ getD starts (32 * t) 0
-        → opens stack₁ (suc depth) ≡ opening (markOf t tail) (low16 k) start ∷ opens stack depth → Settled bytes fields (opens stack₁ (depth + 1)) (depth + 1) place nodes stack′ nodes′ r
+    pub turn-cells : (k start : ℕ) (tail : Bool) (o : Open) (stack′ nodes′ : List ℕ) (r : Next) → Cells k tail ≡ suitAt bytes at kinds counts arities t → start ≡ getD starts (32 * t) 0
+        → o ≡ opening (markOf t tail) (low16 k) start → Settled bytes fields (o ∷ opens stack depth) (depth + 1) place nodes stack′ nodes′ r
         → Turned bytes kinds counts arities starts fields at t depth place stack nodes stack′ nodes′ r
-    turn-cells k start tail stack₁ stack′ nodes′ r e f o s =
+    turn-cells k start tail o stack′ nodes′ r e f oIs s =
         let n = known (Cells k tail) e in
         let k′ : low16 k ≡ k = omega (arith, n .2) in
-        let o′ : opens stack₁ (depth + 1) ≡ opening (markOf t tail) k start ∷ opens stack depth = ap (opens stack₁) (add-one depth) ∙ o ∙ ap (λ (x : ℕ). opening (markOf t tail) x start ∷ opens stack depth) k′ in
-        turn-settled [] nodes stack′ nodes′ (opens stack₁ (depth + 1)) (depth + 1) place r refl (sym (add-zero place)) (omega arith) (omega arith)
+        let o′ : o ≡ opening (markOf t tail) k start = oIs ∙ ap (λ (x : ℕ). opening (markOf t tail) x start) k′ in
+        turn-settled [] nodes stack′ nodes′ (o ∷ opens stack depth) (depth + 1) place r refl (sym (add-zero place)) (omega arith) (omega arith)
         (λ i. done)
-        (none-placed (n .1))
-        (rw (o′, due-cons (opening (markOf t tail) k start) (opens stack depth), cells-wanted t k start tail, n .0) refl)
+        (no-places ∙ sym (n .1))
+        (rw (o′, due-cons (opening (markOf t tail) k start) (opens stack depth), cells-wanted t k tail, n .0) refl)
         (λ table used shape fielded here.
         let m = meaning (Cells k tail) e table shape here in
-        (cells t (getD (fieldsAt table t 0) 0 0) k tail, sym (m .0), ap (λ (is : List Item). is ++ pending bytes fields (opens stack depth)) (sym (cells-items kinds counts arities starts fields table used shape fielded t here short bytes k start tail (m .1) f)) ∙ sym (pending-cons bytes fields (opening (markOf t tail) k start) (opens stack depth)) ∙ ap (pending bytes fields) (sym o′)))
+        (cells t (getD (fieldsAt table t 0) 0 0) k tail, sym (m .0), ap (λ (is : List Item). is ++ pending bytes fields (opens stack depth)) (sym (cells-items kinds counts arities starts fields table used shape fielded t here short bytes k start tail (m .1) f)) ∙ sym (pending-cons bytes fields (opening (markOf t tail) k start) (opens stack depth)) ∙ ap (λ (x : Open). pending bytes fields (x ∷ opens stack depth)) (sym o′)))
         s
 
-    pub turn-args : (c k w start node from : ℕ) (nodes₁ stack₁ stack′ nodes′ : List ℕ) (r : Next) → Args c k w ≡ suitAt bytes at kinds counts arities t → start ≡ getD starts (32 * t + c) 0
+    pub turn-args : (c k w start node from : ℕ) (o : Open) (nodes₁ stack′ nodes′ : List ℕ) (r : Next) → Args c k w ≡ suitAt bytes at kinds counts arities t → start ≡ getD starts (32 * t + c) 0
         → node ≡ keyOf t c → nodes₁ ≡ set nodes place node → from ≡ place + 1
-        → opens stack₁ (suc depth) ≡ opening (low16 w) (low16 k) start ∷ opens stack depth → Settled bytes fields (opens stack₁ (depth + 1)) (depth + 1) from nodes₁ stack′ nodes′ r
+        → o ≡ opening (low16 w) (low16 k) start → Settled bytes fields (o ∷ opens stack depth) (depth + 1) from nodes₁ stack′ nodes′ r
         → Turned bytes kinds counts arities starts fields at t depth place stack nodes stack′ nodes′ r
-    turn-args c k w start node from nodes₁ stack₁ stack′ nodes′ r e f g h i o s =
+    turn-args c k w start node from o nodes₁ stack′ nodes′ r e f g h i oIs s =
         let n = known (Args c k w) e in
         let k′ : low16 k ≡ k = omega (arith, n .3) in
         let w′ : low16 w ≡ w = omega (arith, n .4) in
-        let o′ : opens stack₁ (depth + 1) ≡ opening w k start ∷ opens stack depth = ap (opens stack₁) (add-one depth) ∙ o ∙ ap₂ (λ (x y : ℕ). opening x y start ∷ opens stack depth) w′ k′ in
-        turn-settled (node ∷ []) nodes₁ stack′ nodes′ (opens stack₁ (depth + 1)) (depth + 1) from r h i (omega arith) (omega arith)
+        let o′ : o ≡ opening w k start = oIs ∙ ap₂ (λ (x y : ℕ). opening x y start) w′ k′ in
+        turn-settled (node ∷ []) nodes₁ stack′ nodes′ (o ∷ opens stack depth) (depth + 1) from r h i (omega arith) (omega arith)
         (λ j. also {n = node} (λ l. absurd (omega arith)) done)
         (plain-one node (omega arith) ∙ sym (n .1))
-        (rw (o′, due-cons (opening w k start) (opens stack depth), args-wanted w k start (n .4), n .0) refl)
+        (rw (o′, due-cons (opening w k start) (opens stack depth), args-wanted w k (n .4), n .0) refl)
         (λ table used shape fielded here.
         let m = meaning (Args c k w) e table shape here in
         let items = args-items kinds counts arities starts fields table used shape fielded t here short bytes c k w start (m .1 .0) (m .1 .1) (n .4) f in
         let key : nodeOf bytes node ≡ con t c = ap (nodeOf bytes) g ∙ key-node bytes t c (omega (arith, shape .few)) (omega (arith, shape .inType t, m .1 .0)) in
-        (put (con t c) ∷ (map pat (take k (fieldsAt table t c)) ++ replicate w (put wild)), sym (m .0), ap₂ (λ (x : Node) (is : List Item). put x ∷ (is ++ pending bytes fields (opens stack depth))) (sym key) (sym items) ∙ ap (λ (is : List Item). put (nodeOf bytes node) ∷ is) (sym (pending-cons bytes fields (opening w k start) (opens stack depth)) ∙ ap (pending bytes fields) (sym o′))))
+        (put (con t c) ∷ (map pat (take k (fieldsAt table t c)) ++ replicate w (put wild)), sym (m .0), ap₂ (λ (x : Node) (is : List Item). put x ∷ (is ++ pending bytes fields (opens stack depth))) (sym key) (sym items) ∙ ap (λ (is : List Item). put (nodeOf bytes node) ∷ is) (sym (pending-cons bytes fields (opening w k start) (opens stack depth)) ∙ ap (λ (x : Open). pending bytes fields (x ∷ opens stack depth)) (sym o′))))
         s

@@ -1,5 +1,2 @@
--- What the contracts of this crate cite: a pattern's bytes, what suits a type, the open patterns, the rows.
-pub mod Raws
-pub mod Suits
-pub mod Opens
+-- What the contracts of this crate cite: the rows.
 pub mod Rows

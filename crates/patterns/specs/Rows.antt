@@ -1,42 +1,33 @@
 -- The row that `simplify` stores: its nodes, `left` beside them, and what its answer says.
 use mathlib.Core.Path.{_≡_}
-use mathlib.Core.Bool.{true, cond}
+use mathlib.Core.Bool.{true}
 use mathlib.Core.List.{List, [], _∷_, _++_, map}
 use mathlib.Core.Option.{Option, none, some}
-use Prim.Native.Nat.{ℕ, zero, suc, _+_, _*_, _-_, _%_, _≤_, _<_}
-use lib.ListN.{length, getD, take, drop}
+use Prim.Native.Nat.{ℕ, _+_, _*_, _≤_, _<_}
+use lib.ListN.{length, take, drop}
 use lib.Seq.{sets}
-use lib.Dec.{ltb}
 use Rattle.scope.specs.Types.{Table, refsGood}
 use Rattle.scope.specs.Patterns.{Row, Raw, inner, Item, put, opened, simplify}
 use Rattle.scope.specs.Frames.{found, patterns}
 use Rattle.layout.specs.Types.{Shape, Fielded}
-use Rattle.layout.specs.Nodes.{rowOf, leftOf, StandsAt}
-use Rattle.patterns.specs.Raws.{rawAt, sizeAt, Literals, Shaped, ownPlace, literalPlaces, placesIn}
-use Rattle.patterns.specs.Opens.{opens, pending, due, restOf, Due, Ends}
-use Rattle.patterns.specs.declared.Next.{Next}
-use Rattle.patterns.specs.declared.Next.the-variants.{Read, Done, Wrong}
+use Rattle.layout.specs.Nodes.{rowOf, leftOf, Literals, placesIn, StandsAt}
+use Rattle.suits.specs.Raws.{rawAt, sizeAt, ownPlace}
+use Rattle.opens.specs.Opens.{opens, pending, due}
+use Rattle.settle.specs.Settled.{restOf, Due, Ends}
+use Rattle.settle.specs.declared.Next.{Next}
+use Rattle.settle.specs.declared.Next.the-variants.{Read, Done, Wrong}
 use Rattle.patterns.specs.declared.Simplified.{Simplified}
 use Rattle.patterns.specs.declared.Simplified.the-variants.{Row as Kept, Unsuited}
 
--- how many arguments a node has: none at a wildcard and a literal
-abbrev pub arityOf : List ℕ → ℕ → ℕ
-arityOf arities zero = 0
-arityOf arities (suc i) = cond (ltb i 32767) (getD arities i 0) 0
+-- the bytes from a place on are one pattern and nothing after it: the line's shape has been checked
+pub record Shaped (bytes : List ℕ) (from : ℕ) : Type 0 where
+  pub raws : List Raw
+  pub read : patterns 1 (drop from bytes) ≡ found raws []
 
--- how many patterns are left at each node of a row of k patterns
-unfoldable pub leftsOf : List ℕ → ℕ → List ℕ → List ℕ
-leftsOf arities k [] = []
-leftsOf arities k (n ∷ ns) = k ∷ leftsOf arities (k - 1 + arityOf arities n) ns
-
--- how many are left after the nodes
-unfoldable pub leftAfter : List ℕ → ℕ → List ℕ → ℕ
-leftAfter arities k [] = k
-leftAfter arities k (n ∷ ns) = leftAfter arities (k - 1 + arityOf arities n) ns
-
--- in 16 bits
-abbrev pub low16 : ℕ → ℕ
-low16 n = n % 65536
+-- the places of the literals among patterns that stand from a place on, one after another
+unfoldable pub literalPlaces : List ℕ → ℕ → List Raw → List ℕ
+literalPlaces bytes at [] = []
+literalPlaces bytes at (p ∷ ps) = ownPlace at p ++ literalPlaces bytes (at + sizeAt bytes at) ps
 
 -- what is asked of a caller: a line's bytes whose shape has been checked, and slices long enough
 pub record Ready (bytes : List ℕ) (from subject : ℕ) (fields stack nodes : List ℕ) (used : ℕ) : Type 0 where

@@ -12,9 +12,9 @@ use Rattle.scope.specs.Types.{Ref, Table, opaque, ctorsAt, ctors, fieldsAt, ari
 use Rattle.scope.specs.Patterns.{Literal, sameLiteral, wild, Row, Matrix}
 use Rattle.scope.specs.Walks.{rowIf, specializeRowByCtor, specializeRowByLiteral, specializeRowByWildcard, eachRow, specializeByCtor, specializeByLiteral, specializeByWildcard}
 use Rattle.layout.specs.Types.{Shape}
-use Rattle.layout.specs.Nodes.{literalAt}
+use Rattle.layout.specs.Nodes.{literalAt, LiteralStands}
 use Rattle.matrix.specs.Numbers.{Rows, arOf, sameNode, row1, rowsBy}
-use Rattle.walks.specs.Bridge.{LiteralStands, Says, wilds, lits, cons, SayRows, noRows, also}
+use Rattle.walks.specs.Bridge.{Says, wilds, lits, cons, SayRows, noRows, also}
 use Rattle.matrix.proofs.Orders.{le-or, test}
 use Rattle.matrix.proofs.Arities.{arity-0, arity-lit}
 use Rattle.matrix.proofs.Literals.{node-ctor, node-not, node-lit}

@@ -10,11 +10,11 @@ use borrow.Author.Tests.{lt-ltb, le-ltb}
 use Rattle.scope.specs.Types.{Ref, Table, ctors, fieldsAt, arity}
 use Rattle.scope.specs.Patterns.{Node, wild, lit, con, Row, Matrix, Typed, done, wilds, lits, cons, TypedRows, noRows, also}
 use Rattle.layout.specs.Types.{Shape}
-use Rattle.layout.specs.Nodes.{nodeOf, arguments, rowOf, leftOf, StandsAt}
+use Rattle.layout.specs.Nodes.{nodeOf, arguments, rowOf, leftOf, StandsAt, LiteralStands}
 use Rattle.matrix.specs.Numbers.{arOf, isCtor, baseOf, countOf}
 use Rattle.matrix.specs.Places.{Narrow, Runs, ends, goes, Starts}
 use Rattle.walks.specs.Bridge as bridge
-use Rattle.walks.specs.Bridge.{LiteralStands, Says, Holding, SayRows, noRows, also}
+use Rattle.walks.specs.Bridge.{Says, Holding, SayRows, noRows, also}
 use Rattle.matrix.proofs.Arities.{arity-0, arity-lit}
 use Rattle.matrix.proofs.Columns.{narrow-none}
 use Rattle.walks.proofs.BridgeRows.{key-arity}

@@ -14,9 +14,8 @@ use Rattle.scope.specs.Lists.{Text, same}
 use Rattle.scope.specs.Patterns.{int, byteArray, sameLiteral}
 use Rattle.scope.proofs.Tests.{same-true}
 use Rattle.layout.specs.Types.{textAt}
-use Rattle.layout.specs.Nodes.{literalAt}
+use Rattle.layout.specs.Nodes.{literalAt, LiteralStands}
 use Rattle.matrix.specs.Numbers.{agree, sameLit}
-use Rattle.walks.specs.Bridge.{LiteralStands}
 use Rattle.matrix.proofs.Orders.{same-or, test}
 use Rattle.matrix.proofs.Literals.{lit-kind}
 

@@ -1,6 +1,5 @@
 -- What ties the walks on numbers to those of `scope`: the row that numbers say, and the statement that both walks are one.
 use mathlib.Core.Path.{_≡_}
-use mathlib.Core.Logic.{_⊎_}
 use mathlib.Core.List.{List, [], _∷_, _++_, map}
 use Prim.Native.Nat.{ℕ, suc, _+_, _*_, _-_, _≤_, _<_}
 use lib.ListN.{length, getD}
@@ -8,14 +7,9 @@ use Rattle.scope.specs.Types.{Ref, Table, ctors, fieldsAt}
 use Rattle.scope.specs.Patterns.{Literal, wild, lit, con, Row, Matrix, TypedRows}
 use Rattle.scope.specs.Walks.{isUseful, turned, collectMissingPatterns}
 use Rattle.layout.specs.Types.{Shape}
-use Rattle.layout.specs.Nodes.{literalAt, rowOf, HoldsRows}
+use Rattle.layout.specs.Nodes.{literalAt, rowOf, LiteralStands, HoldsRows}
 use Rattle.matrix.specs.Numbers.{Rows}
 use Rattle.walks.specs.Walks.{usefulOf, missingOf}
-
--- a literal's bytes at a place: its kind, 03 or 04, its length, and that many bytes
-pub record LiteralStands (bytes : List ℕ) (p : ℕ) : Type 0 where
-  pub known : (getD bytes p 0 ≡ 3) ⊎ (getD bytes p 0 ≡ 4)
-  pub whole : p + 2 + getD bytes (p + 1) 0 ≤ length bytes
 
 -- a row of numbers begins with patterns of these types, and so does a row: with the same ones
 pub data Says (bytes : List ℕ) (table : Table) : List Ref → List ℕ → Row → Type 0 where

@@ -1,6 +1,7 @@
 -- `patterns::after` meets its contract: the size by each kind of pattern.
 use native.Mathlib.Omega.{arith}
-use Rattle.patterns.proofs.Small.{past-seven, sized}
+use Rattle.suits.proofs.Small.{past-seven}
+use Rattle.patterns.proofs.Scan.{sized}
 use Prim.Native.Nat.{suc}
 use mathlib.Core.Path.{_∙_}
 use Rattle.patterns.proofs.after.Statement.{statement}

@@ -6,7 +6,7 @@ use borrow.Author.Needs.{needs}
 use lib.ListN.{length}
 use lib.Seq.{length-sets}
 use Rattle.patterns.specs.Rows.{Turned}
-use Rattle.patterns.specs.declared.Next.{Next}
+use Rattle.settle.specs.declared.Next.{Next}
 use Rattle.patterns.proofs.Rounds.{Going, start, here, falls, round, wrong, last}
 use Rattle.patterns.proofs.read.Statement.{statement}
 use Rattle.patterns.proofs.read.Tie as tie

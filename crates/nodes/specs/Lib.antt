@@ -1,0 +1,3 @@
+-- The numbers of nodes, and how many patterns are left beside them.
+pub mod Keys
+pub mod Lefts

@@ -1,0 +1,2 @@
+-- The open patterns and the items that they stand for.
+pub mod Opens

@@ -1,0 +1,3 @@
+-- A pattern as its bytes have it, and what it becomes at a type.
+pub mod Raws
+pub mod Suits
