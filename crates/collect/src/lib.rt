@@ -1,7 +1,7 @@
 // `collect_missing_patterns`. The walk carries the path from the root, and a leaf writes its rows out.
-use matrix::rows::arity;
-use matrix::rows::copy;
-use matrix::rows::specialize;
+use matrix::arity;
+use matrix::copy;
+use matrix::specialize;
 use paths::Ctors;
 use paths::Spelt;
 use paths::collect_ctors;

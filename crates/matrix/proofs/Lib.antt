@@ -1,7 +1,6 @@
 -- What the proofs of several functions use.
 pub mod Orders
 pub mod Arities
-pub mod Columns
 pub mod Literals
 pub mod Steps
 pub mod Fronts

@@ -2,7 +2,7 @@
 use cells::clear;
 use collect::Seek;
 use collect::collect_missing_patterns;
-use matrix::rows::copy;
+use matrix::copy;
 ghost use mathlib.Core.Path.{_≡_};
 ghost use Prim.Native.Nat.{_≤_};
 ghost use lib.ListN.{length, replicate};

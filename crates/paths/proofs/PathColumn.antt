@@ -11,7 +11,7 @@ use Rattle.matrix.specs.Numbers.{firstOf, mem, allIn, baseOf, countOf, bare, pa
 use Rattle.matrix.specs.Places.{upTo}
 use Rattle.paths.specs.Path.{downSet, unseenSet, ctorsOf}
 use Rattle.paths.specs.declared.Ctors.the-variants.{Complete, Open}
-use Rattle.matrix.proofs.Columns.{flags-all}
+use Rattle.column.proofs.Columns.{flags-all}
 
 -- the flags' set is the column's
 module _ (hs : List ℕ) (b : ℕ) (flags : List Bool) (ok : (c : ℕ) → c < 32 → getD flags c false ≡ mem (b + c) hs) where

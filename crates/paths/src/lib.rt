@@ -1,12 +1,12 @@
 // The path from the root of the missing walk: a step is a node, or, where its set is not 0, each constructor of the set,
 // with wildcards inside. What a column adds to it, and the rows that it says, written out.
 use cells::put16;
-use matrix::column::all;
-use matrix::column::base;
-use matrix::column::count;
-use matrix::column::first;
-use matrix::column::seen;
-use matrix::rows::arity;
+use column::all;
+use column::base;
+use column::count;
+use column::first;
+use column::seen;
+use matrix::arity;
 ghost use mathlib.Core.Path.{_≡_};
 ghost use Prim.Native.Nat.{ℕ, _+_, _-_, _^_, _≤_, _<_};
 ghost use mathlib.Core.List.{[], _∷_, map};

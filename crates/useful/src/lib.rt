@@ -1,13 +1,13 @@
 // `is_useful`, and the driver's part of it: each clause against all before it.
 use cells::wide16;
-use matrix::column::all;
-use matrix::column::base;
-use matrix::column::count;
-use matrix::column::first;
-use matrix::column::seen;
-use matrix::rows::arity;
-use matrix::rows::copy;
-use matrix::rows::specialize;
+use column::all;
+use column::base;
+use column::count;
+use column::first;
+use column::seen;
+use matrix::arity;
+use matrix::copy;
+use matrix::specialize;
 ghost use mathlib.Core.Path.{_≡_};
 ghost use mathlib.Core.List.{map};
 ghost use Prim.Native.Nat.{_+_, _-_, _≤_, _<_};

@@ -16,7 +16,7 @@ use Rattle.matrix.specs.Places.{Narrow, Runs, ends, goes, Starts}
 use Rattle.walks.specs.Bridge as bridge
 use Rattle.walks.specs.Bridge.{Says, Holding, SayRows, noRows, also}
 use Rattle.matrix.proofs.Arities.{arity-0, arity-lit}
-use Rattle.matrix.proofs.Columns.{narrow-none}
+use Rattle.matrix.proofs.Seen.{narrow-none}
 use Rattle.walks.proofs.BridgeRows.{key-arity}
 use Rattle.walks.proofs.BridgeNodes.{number-wild, number-literal, number-ctor}
 use Rattle.walks.proofs.BridgeColumns.{base-is, count-is}

@@ -34,9 +34,9 @@ use Rattle.collect.proofs.into.Kinds as into-kinds
 use Rattle.collect.proofs.+aside+collect_missing_patterns+each+into.Lts-into as into-lts
 use Rattle.paths.proofs.collect_ctors.Reads as collect-ctors-reads
 use Rattle.paths.proofs.put_rows.Reads as put-rows-reads
-use Rattle.matrix.proofs.rows.arity.Reads as arity-reads
-use Rattle.matrix.proofs.rows.copy.Reads as copy-reads
-use Rattle.matrix.proofs.rows.specialize.Reads as specialize-reads
+use Rattle.matrix.proofs.arity.Reads as arity-reads
+use Rattle.matrix.proofs.copy.Reads as copy-reads
+use Rattle.matrix.proofs.specialize.Reads as specialize-reads
 use Rattle.collect.proofs.+aside+collect_missing_patterns+each+into.{statement}
 use Rattle.collect.proofs.+aside+collect_missing_patterns+each+into.Tie.{close}
 

@@ -33,9 +33,9 @@ use Rattle.useful.proofs.+into+is_useful+try_each+wildcard.Lts-try_each
 use Rattle.useful.proofs.wildcard.Reads as wildcard
 use Rattle.useful.proofs.wildcard.Kinds as wildcard-kinds
 use Rattle.useful.proofs.+into+is_useful+try_each+wildcard.Lts-wildcard as wildcard-lts
-use Rattle.matrix.proofs.column.count.Reads as count-reads
-use Rattle.matrix.proofs.rows.arity.Reads as arity-reads
-use Rattle.matrix.proofs.rows.specialize.Reads as specialize-reads
+use Rattle.column.proofs.count.Reads as count-reads
+use Rattle.matrix.proofs.arity.Reads as arity-reads
+use Rattle.matrix.proofs.specialize.Reads as specialize-reads
 use Rattle.useful.proofs.complete.Reads as complete-reads
 use Rattle.useful.proofs.leaf.Reads as leaf-reads
 use Rattle.useful.proofs.+into+is_useful+try_each+wildcard.{statement}

@@ -1,7 +1,7 @@
--- `matrix::column::first` meets its contract: the column from row i on begins as the whole of it, and a constructor is found among its type's.
-use Rattle.matrix.proofs.Columns.{first-on, first-lit, first-here, head-among}
+-- `column::first` meets its contract: the column from row i on begins as the whole of it, and a constructor is found among its type's.
+use Rattle.column.proofs.Columns.{first-on, first-lit, first-here, head-among}
 use Rattle.matrix.specs.Places.{headAt}
 use Rattle.matrix.specs.Numbers.{firstOf}
 use lib.ListN.{length, getD, drop, drop-of-length-le}
 use borrow.Author.Needs.{needs}
 use native.Mathlib.Omega.{arith}
@@ -9,8 +9,8 @@ use Prim.Native.Nat.{ℕ, _+_, _-_, _≤_}
 use mathlib.Core.List.{List, map}
 use mathlib.Core.Logic.{⊎-elim}
 use mathlib.Core.Path.{_≡_, refl, sym, ap, subst, _∙_}
-use Rattle.matrix.proofs.column.first.Statement.{statement}
-use Rattle.matrix.proofs.column.first.Tie as tie
+use Rattle.column.proofs.first.Statement.{statement}
+use Rattle.column.proofs.first.Tie as tie
 
 abbrev Inv-loop : tie.InvT-loop
 Inv-loop nodes left counts ps n found₀ i h b k c₀ found c = (c ≤ k) × (found ≡ 0) × (b + c ≤ h)

@@ -1,12 +1,12 @@
--- `matrix::rows::copy` meets its contract: the front up to i is copied.
+-- `matrix::copy` meets its contract: the front up to i is copied.
 use Rattle.matrix.proofs.Fronts.{front-more, front-length}
 use lib.ListN.{length, getD, take, drop, set}
 use native.Mathlib.Omega.{arith}
 use Prim.Native.Nat.{ℕ, _-_, _≤_}
 use mathlib.Core.List.{List, _++_}
 use mathlib.Core.Path.{_≡_, refl, ap, subst, _∙_}
-use Rattle.matrix.proofs.rows.copy.Statement.{statement}
-use Rattle.matrix.proofs.rows.copy.Tie as tie
+use Rattle.matrix.proofs.copy.Statement.{statement}
+use Rattle.matrix.proofs.copy.Tie as tie
 
 abbrev Inv-loop : tie.InvT-loop
 Inv-loop at k s₀ i₀ s i = (i ≤ k) × (s ≡ take i at ++ drop i s₀)

@@ -1,10 +1,10 @@
--- `matrix::column::head` meets its contract: the two ways of the test.
+-- `column::head` meets its contract: the two ways of the test.
 use Rattle.matrix.proofs.Steps.{head-invented, head-real}
 use native.Mathlib.Omega.{arith}
 use mathlib.Core.Path.{_∙_}
 use borrow.Author.Needs.{needs}
-use Rattle.matrix.proofs.column.head.Statement.{statement}
-use Rattle.matrix.proofs.column.head.Tie as tie
+use Rattle.column.proofs.head.Statement.{statement}
+use Rattle.column.proofs.head.Tie as tie
 
 at16-requires : tie.Need-at16-requires
 at16-requires c κs = search needs

@@ -1,13 +1,13 @@
--- `matrix::column::all` meets its contract: the flags before i are up.
-use Rattle.matrix.proofs.Columns.{up-more, up-fail}
+-- `column::all` meets its contract: the flags before i are up.
+use Rattle.column.proofs.Columns.{up-more, up-fail}
 use Rattle.matrix.specs.Places.{upTo}
 use borrow.Author.Tests.{not-true, not-false}
 use native.Mathlib.Omega.{arith}
 use Prim.Native.Nat.{ℕ, _-_, _≤_}
 use mathlib.Core.Bool.{true}
 use mathlib.Core.Path.{_≡_, refl, sym, subst}
-use Rattle.matrix.proofs.column.all.Statement.{statement}
-use Rattle.matrix.proofs.column.all.Tie as tie
+use Rattle.column.proofs.all.Statement.{statement}
+use Rattle.column.proofs.all.Tie as tie
 
 abbrev Inv-loop : tie.InvT-loop
 Inv-loop k flags i₀ i = (i ≤ k) × (upTo flags i ≡ true)

@@ -1,4 +1,4 @@
--- `matrix::rows::specialize` meets its contract: the steps of the first i rows are written.
+-- `matrix::specialize` meets its contract: the steps of the first i rows are written.
 use Rattle.matrix.proofs.Steps.{written-none, written-length, written-read, turn-at, turn-gone}
 use Rattle.matrix.specs.Places.{steps, placeOf, Written}
 use lib.Seq.{length-take-le, take-all}
@@ -9,8 +9,8 @@ use Prim.Native.Nat.{ℕ, _+_, _-_, _≤_, _<_}
 use mathlib.Core.List.{List}
 use mathlib.Core.Logic.{⊎-elim}
 use mathlib.Core.Path.{_≡_, sym, ap, subst, _∙_}
-use Rattle.matrix.proofs.rows.specialize.Statement.{statement}
-use Rattle.matrix.proofs.rows.specialize.Tie as tie
+use Rattle.matrix.proofs.specialize.Statement.{statement}
+use Rattle.matrix.proofs.specialize.Tie as tie
 
 abbrev Inv-loop : tie.InvT-loop
 Inv-loop bytes nodes left n key s₀ rows k₀ i₀ s k i = (i ≤ rows) × (Written s₀ rows (steps bytes nodes left n key (take i (take rows s₀))) k s × (k ≤ i))

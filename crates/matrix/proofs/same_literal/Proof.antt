@@ -1,4 +1,4 @@
--- `matrix::rows::same_literal` meets its contract: the first i bytes agree, so the rest decides.
+-- `matrix::same_literal` meets its contract: the first i bytes agree, so the rest decides.
 use Rattle.matrix.proofs.Literals.{agree-on, agree-fail, agree-end, lit-kind, lit-length, lit-text}
 use Rattle.matrix.specs.Numbers.{agree}
 use lib.ListN.{getD}
@@ -6,8 +6,8 @@ use native.Mathlib.Omega.{arith}
 use native.Mathlib.Nat.{add-zero, sub-zero}
 use Prim.Native.Nat.{_+_, _-_, _≤_}
 use mathlib.Core.Path.{_≡_, sym, _∙_}
-use Rattle.matrix.proofs.rows.same_literal.Statement.{statement}
-use Rattle.matrix.proofs.rows.same_literal.Tie as tie
+use Rattle.matrix.proofs.same_literal.Statement.{statement}
+use Rattle.matrix.proofs.same_literal.Tie as tie
 
 abbrev Inv-loop : tie.InvT-loop
 Inv-loop bytes a b n i₀ i = (i ≤ n) × (agree bytes (n - i) (a + 2 + i) (b + 2 + i) ≡ agree bytes n (a + 2) (b + 2))

@@ -1,4 +1,4 @@
--- `matrix::rows::onward` meets its contract: each way out is one of the row's steps.
+-- `matrix::onward` meets its contract: each way out is one of the row's steps.
 use Rattle.matrix.proofs.Steps.{step-stay, step-wild, step-none, step-key, step-other}
 use Rattle.matrix.specs.Numbers.{sameNode}
 use lib.ListN.{getD}
@@ -6,8 +6,8 @@ use native.Mathlib.Omega.{arith}
 use Prim.Native.Nat.{ℕ}
 use mathlib.Core.Path.{_≡_, sym, ap, _∙_}
 use borrow.Author.Needs.{needs}
-use Rattle.matrix.proofs.rows.onward.Statement.{statement}
-use Rattle.matrix.proofs.rows.onward.Tie as tie
+use Rattle.matrix.proofs.onward.Statement.{statement}
+use Rattle.matrix.proofs.onward.Tie as tie
 
 wide16-requires : tie.Need-wide16-requires
 wide16-requires c κs = search needs

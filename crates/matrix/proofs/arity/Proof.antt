@@ -1,11 +1,11 @@
--- `matrix::rows::arity` meets its contract: a wildcard, or what the table of arities has.
+-- `matrix::arity` meets its contract: a wildcard, or what the table of arities has.
 use Rattle.matrix.proofs.Arities.{arity-none, arity-node}
 use lib.ListN.{getD}
 use Prim.Native.Nat.{ℕ, _-_}
 use mathlib.Core.Path.{ap, _∙_}
 use borrow.Author.Needs.{needs}
-use Rattle.matrix.proofs.rows.arity.Statement.{statement}
-use Rattle.matrix.proofs.rows.arity.Tie as tie
+use Rattle.matrix.proofs.arity.Statement.{statement}
+use Rattle.matrix.proofs.arity.Tie as tie
 
 returns : tie.Need-returns
 returns c =

@@ -1,11 +1,11 @@
--- `matrix::rows::same_node` meets its contract: a constructor, a literal against a constructor, two literals.
+-- `matrix::same_node` meets its contract: a constructor, a literal against a constructor, two literals.
 use Rattle.matrix.proofs.Literals.{node-ctor, node-not, node-lit}
 use Rattle.matrix.specs.Numbers.{sameLit}
 use Prim.Native.Nat.{ℕ}
 use mathlib.Core.Path.{ap₂, _∙_}
 use borrow.Author.Needs.{needs}
-use Rattle.matrix.proofs.rows.same_node.Statement.{statement}
-use Rattle.matrix.proofs.rows.same_node.Tie as tie
+use Rattle.matrix.proofs.same_node.Statement.{statement}
+use Rattle.matrix.proofs.same_node.Tie as tie
 
 returns : tie.Need-returns
 returns c =

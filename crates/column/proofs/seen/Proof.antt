@@ -1,14 +1,14 @@
--- `matrix::column::seen` meets its contract: the flags are right of the rows before i.
-use Rattle.matrix.proofs.Columns.{Flags, flags-start, flags-end, flags-miss, flags-hit}
+-- `column::seen` meets its contract: the flags are right of the rows before i.
+use Rattle.column.proofs.Columns.{Flags, flags-start, flags-end, flags-miss, flags-hit}
 use Rattle.matrix.specs.Places.{headAt}
 use lib.ListN.{length, getD}
 use borrow.Author.Needs.{needs}
 use native.Mathlib.Omega.{arith}
 use Prim.Native.Nat.{_-_, _≤_}
 use mathlib.Core.Logic.{⊎-elim}
 use mathlib.Core.Path.{_≡_, ap, _∙_}
-use Rattle.matrix.proofs.column.seen.Statement.{statement}
-use Rattle.matrix.proofs.column.seen.Tie as tie
+use Rattle.column.proofs.seen.Statement.{statement}
+use Rattle.column.proofs.seen.Tie as tie
 
 abbrev Inv-loop : tie.InvT-loop
 Inv-loop nodes left ps n b flags₀ i₀ flags i = (i ≤ length ps) × Flags (headAt nodes left n) ps b i flags

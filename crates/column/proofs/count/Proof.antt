@@ -1,10 +1,10 @@
--- `matrix::column::count` meets its contract: what it reads is the count.
+-- `column::count` meets its contract: what it reads is the count.
 use lib.ListN.{getD}
 use Prim.Native.Nat.{ℕ, _-_, _/_}
 use mathlib.Core.Path.{ap, _∙_}
 use borrow.Author.Needs.{needs}
-use Rattle.matrix.proofs.column.count.Statement.{statement}
-use Rattle.matrix.proofs.column.count.Tie as tie
+use Rattle.column.proofs.count.Statement.{statement}
+use Rattle.column.proofs.count.Tie as tie
 
 wide16-requires : tie.Need-wide16-requires
 wide16-requires c κs = search needs
