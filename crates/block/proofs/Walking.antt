@@ -16,13 +16,13 @@ use Rattle.scope.specs.Walks.{collectMissingPatterns}
 use Rattle.scope.specs.Report.{judged, Findings, findings, tooMuch}
 use Rattle.meaning.proofs.Promised.{judged-length}
 use Rattle.walks.specs.Limits.{within}
-use Rattle.useful.specs.Driver.{Judges}
+use Rattle.judge.specs.Driver.{Judges}
 use Rattle.missing.specs.Missing.{Finds}
-use Rattle.useful.specs.declared.Judged.the-variants as judgedAs
-use Rattle.collect.specs.declared.Seek.the-variants as seek
+use Rattle.judge.specs.declared.Judged.the-variants as judgedAs
+use Rattle.outcomes.specs.declared.Seek.the-variants as seek
 use Rattle.lines.specs.Findings.{said}
 use Rattle.walks.proofs.Limits.{within-not}
-use Rattle.useful.proofs.Driver.{judged-done, judged-over}
+use Rattle.judge.proofs.Driver.{judged-done, judged-over}
 use Rattle.missing.proofs.Driver.{found-not, found-done, found-over}
 use Rattle.block.specs.declared.driver.Walks.the-variants.{Done, Over}
 use Rattle.block.specs.Driver.{Walked, over, done}

@@ -1,13 +1,13 @@
 // The driver: a file is read, both walks go over its block, and the report is written.
 use cells::clear;
-use collect::Seek;
 use lines::report as write_report;
 use missing::missing;
+use outcomes::Seek;
 use reading::file::Parsed;
 use reading::file::read;
 use scope::Answer;
-use useful::Judged;
-use useful::judge;
+use judge::Judged;
+use judge::judge;
 ghost use mathlib.Core.Path.{_≡_};
 ghost use Prim.Native.Nat.{ℕ, _≤_, _<_};
 ghost use mathlib.Core.List.{List};

@@ -1,37 +1,38 @@
 -- The calls of the missing walk of one another, over plain lists: what each call asks, that the measure falls, and what each answer gives.
 use mathlib.Core.Path.{_≡_, refl, sym, ap, ap₂, subst, subst₂, _∙_}
 use mathlib.Core.Bool.{Bool, true, false, cond}
-use mathlib.Core.List.{List, [], _∷_, _++_, map, append-assoc}
+use mathlib.Core.List.{List, [], _∷_, _++_, map}
 use Prim.Native.Nat.{ℕ, zero, suc, _+_, _*_, _-_, _≤_, _<_}
 use native.Mathlib.Nat.{add-zero, mul-le-mul, mul-one, one-mul}
 use native.Mathlib.Omega.{arith}
 use native.Mathlib.Numerals.{add-one}
 use lib.ListN.{length, take, drop, set, replicate, length-append, length-drop}
-use lib.Seq.{length-take-le, take-at, drop-at}
+use lib.Seq.{length-take-le, take-at}
 use lib.Dec.{ltb}
 use borrow.Author.Tests.{lt-ltb, le-ltb}
 use Rattle.scope.specs.Walks.{Walk, plain, holding, turned, joined}
-use Rattle.scope.proofs.Tests.{clash}
-use Rattle.matrix.specs.Numbers.{Rows, arOf, rowsBy, headOf, mem, countOf, Seen, bare, part, full, seenOf, recover, matrix}
+use Rattle.matrix.specs.Numbers.{Rows, arOf, rowsBy, headOf, mem, Seen, seenOf, recover, matrix}
 use Rattle.walks.specs.Walks.{gatherFrom, missingBy, missingSeen, missingBody, missingStep, missingOf, size}
 use Rattle.matrix.specs.Places.{headAt, steps, Few, Places, Written, Listed}
-use Rattle.paths.specs.Path.{Step, under, stepped, stepOf, pathOf, spelt, ctorsOf}
+use Rattle.ctors.specs.Sets.{ctorsOf}
+use Rattle.ctors.proofs.Found.{complete-is}
+use Rattle.outcomes.specs.Past.{past, counting}
+use Rattle.outcomes.proofs.Tests.{passed}
+use Rattle.paths.specs.Path.{Step, under, stepped, stepOf, pathOf, spelt}
 use Rattle.collect.specs.Ready.{Opened, Held, Trail, Sought}
 use Rattle.paths.specs.Spread.{Spread}
-use Rattle.paths.specs.declared.Ctors.{Ctors}
-use Rattle.paths.specs.declared.Ctors.the-variants.{Complete, Open}
-use Rattle.paths.specs.declared.Spelt.{Spelt}
-use Rattle.paths.specs.declared.Spelt.the-variants as spelling
-use Rattle.collect.specs.declared.Seek.{Seek}
-use Rattle.collect.specs.declared.Seek.the-variants.{Done, Over}
-use Rattle.matrix.proofs.Steps.{written-length}
-use Rattle.matrix.proofs.Specialised.{heads, few-places, rows-by, places-by, steps-length, matrix-length}
-use Rattle.matrix.proofs.Seen.{Whole, seen-whole}
+use Rattle.ctors.specs.declared.Ctors.{Ctors}
+use Rattle.ctors.specs.declared.Ctors.the-variants.{Complete, Open}
+use Rattle.outcomes.specs.declared.Spelt.{Spelt}
+use Rattle.outcomes.specs.declared.Seek.{Seek}
+use Rattle.outcomes.specs.declared.Seek.the-variants.{Done, Over}
+use Rattle.matrix.proofs.Specialised.{heads, few-places, matrix-length}
+use Rattle.matrix.proofs.Behind.{Behind, behind}
 use Rattle.matrix.proofs.Fronts.{part as part-from}
 use Rattle.paths.proofs.PathLaws.{under-append, under-none, spelt-none, path-take, path-next}
 use Rattle.collect.proofs.Column.{open-low, open-walk}
 use Rattle.walks.proofs.MissingSteps.{size-wild, size-key, missing-is}
-use Rattle.collect.proofs.Walk.{sought-same, sought-step, sought-enter, sought-cells, sought-calls, sought-none, sought-leaf-over, sought-leaf, sought-over, sought-done, sought-then}
+use Rattle.collect.proofs.Walk.{sought-same, sought-step, sought-enter, sought-cells, sought-calls, sought-none, sought-leaf, sought-over, sought-done, sought-then}
 
 -- a product that is at least each of its factors
 pub at-least : (a n : ℕ) → 0 < a → 0 < n → (a ≤ a * n) × (n ≤ a * n)
@@ -40,6 +41,11 @@ at-least a n l p =
     let y : 1 * n ≤ a * n = mul-le-mul (omega arith) (omega arith) in
     (omega (arith, mul-one a), omega (arith, one-mul n))
 
+-- how far `into` is in its cycle, whether the scratch is short or not
+either : (b : Bool) → cond b 702 700 ≤ 702
+either true = omega arith
+either false = omega arith
+
 -- the rows of a leaf
 pub leaf-spread : (ars path alts : List ℕ) (depth n : ℕ) (out : List ℕ) (written found : ℕ) (v : Spelt) (e : List ℕ) → Spread out written found (under ars (pathOf path alts depth) (spelt ars path alts depth (depth - depth) n ∷ [])) v e → Spread out written found (under ars (pathOf path alts depth) (replicate n 0 ∷ [])) v e
 leaf-spread ars path alts depth n out written found v e h = subst (λ (x : List ℕ). Spread out written found (under ars (pathOf path alts depth) (x ∷ [])) v e) (spelt-none ars path alts n (depth - depth) depth (omega arith)) h
@@ -47,37 +53,21 @@ leaf-spread ars path alts depth n out written found v e h = subst (λ (x : List 
 module _ (bytes nodes left counts ars : List ℕ) where
   -- `into`: the specialised matrix stands after the rows
   module _ (low : (h : ℕ) → arOf ars h ≤ 255) (n key : ℕ) (s : List ℕ) (rows room : ℕ) (r : Held nodes left counts ars n s rows room) (fit : rows + rows ≤ length s) (k : ℕ) (e : List ℕ) (wr : Written s rows (steps bytes nodes left n key (take rows s)) k e) (a : ℕ) (ae : a ≡ arOf ars key) where
-    l : List ℕ
-    l = steps bytes nodes left n key (take rows s)
-
-    k-low : k ≤ rows
-    k-low = omega (arith, wr .many, steps-length nodes left counts ars bytes n key (take rows s), length-take-le rows s (omega arith))
-
-    rest : drop rows e ≡ l ++ drop (rows + k) s
-    unfolding l
-    rest = ap (drop rows) (wr .text ∙ append-assoc (take rows s) l (drop (rows + k) s)) ∙ drop-at (take rows s) (l ++ drop (rows + k) s) rows (length-take-le rows s (omega arith))
+    stands : Behind bytes nodes left counts ars n key s rows k e a
+    stands = behind bytes nodes left counts ars (r .sizes .low) n key (r .some) s rows (r .places) fit k e wr a ae
 
     pub into-length : length e ≡ length s
-    into-length = written-length s rows fit (steps bytes nodes left n key (take rows s)) k e wr k-low
-
-    front : take k (take (length e - rows) (drop rows e)) ≡ l
-    unfolding l
-    front = ap (take k) (part-from e rows ∙ rest) ∙ take-at l (drop (rows + k) s) k (sym (wr .many))
-
-    into-matrix : matrix nodes left (n - 1 + a) (take k (take (length e - rows) (drop rows e))) ≡ rowsBy bytes key (arOf ars key) (matrix nodes left n (take rows s))
-    unfolding l
-    into-matrix = ap₂ (λ (x : ℕ) (y : List ℕ). matrix nodes left (n - 1 + x) y) ae front ∙ rows-by nodes left counts ars bytes (r .sizes .low) n key (r .some) (r .places)
+    into-length = stands .same
 
     pub into-opened : Opened nodes left counts ars (n - 1 + a) (take (length e - rows) (drop rows e)) k room
-    unfolding l
     into-opened =
         let len = ap length (part-from e rows) in
         record {
           sizes = r .sizes;
-          places = subst₂ (λ (x : ℕ) (y : List ℕ). Places nodes left counts ars (n - 1 + x) y) (sym ae) (sym front) (places-by nodes left counts ars bytes (r .sizes .low) n key (r .some) (r .places));
-          low = omega (arith, k-low, r .low);
-          fits = omega (arith, len, length-drop rows e, into-length, k-low);
-          space = omega (arith, len, length-drop rows e, into-length, r .space);
+          places = stands .places;
+          low = omega (arith, stands .few, r .low);
+          fits = omega (arith, len, length-drop rows e, stands .same, stands .few);
+          space = omega (arith, len, length-drop rows e, stands .same, r .space);
           wide = omega (arith, r .wide, low key);
         }
 
@@ -85,25 +75,16 @@ module _ (bytes nodes left counts ars : List ℕ) where
         → 1024 * size (n - 1 + a) (matrix nodes left (n - 1 + a) (take k (take (length e - rows) (drop rows e)))) + 600 < t
     into-falls t q =
         let z : size (n - 1 + a) (matrix nodes left (n - 1 + a) (take k (take (length e - rows) (drop rows e)))) ≡ size (n - 1 + arOf ars key) (rowsBy bytes key (arOf ars key) (matrix nodes left n (take rows s)))
-        = ap₂ (λ (x : ℕ) (y : Rows). size (n - 1 + x) y) ae into-matrix in
+        = ap₂ (λ (x : ℕ) (y : Rows). size (n - 1 + x) y) ae (stands .is) in
         omega (arith, ap {B = ℕ} (λ (t : Bool). cond t 702 700) (le-ltb (length s) (rows + rows) fit))
 
     pub into-sought : (e₂ path pe alts alts₂ : List ℕ) (depth : ℕ) (out oe : List ℕ) (written found calls : ℕ) (v : Seek)
         → Sought (take (length e - rows) (drop rows e)) k e₂ path pe alts alts₂ depth out oe written found calls room v (turned (under ars (pathOf path alts depth)) (missingOf bytes counts ars (n - 1 + a) (matrix nodes left (n - 1 + a) (take k (take (length e - rows) (drop rows e))))))
         → Sought s rows (take rows e ++ (e₂ ++ drop (length e - rows) (drop rows e))) path pe alts alts₂ depth out oe written found calls room v (turned (under ars (pathOf path alts depth)) (missingBy bytes counts ars (missingOf bytes counts ars) (n - 1) (matrix nodes left n (take rows s)) key))
-    unfolding l
     into-sought e₂ path pe alts alts₂ depth out oe written found calls v h =
-        let o = ap₂ (λ (x : ℕ) (y : Rows). turned (under ars (pathOf path alts depth)) (missingOf bytes counts ars (n - 1 + x) y)) ae into-matrix in
+        let o = ap₂ (λ (x : ℕ) (y : Rows). turned (under ars (pathOf path alts depth)) (missingOf bytes counts ars (n - 1 + x) y)) ae (stands .is) in
         sought-same s rows (take rows e ++ (e₂ ++ drop (length e - rows) (drop rows e))) path pe alts alts₂ depth out oe written found calls room v _ _ o
-        (record {
-          kept = take-at (take rows e) (e₂ ++ drop (length e - rows) (drop rows e)) rows (length-take-le rows e (omega (arith, into-length)))
-              ∙ ap (take rows) (wr .text ∙ append-assoc (take rows s) l (drop (rows + k) s)) ∙ take-at (take rows s) (l ++ drop (rows + k) s) rows (length-take-le rows s (omega arith));
-          keptPath = h .keptPath;
-          keptAlts = h .keptAlts;
-          is = h .is;
-          text = h .text;
-          few = h .few;
-        })
+        (record { kept = stands .kept e₂; keptPath = h .keptPath; keptAlts = h .keptAlts; is = h .is; text = h .text; few = h .few })
 
   -- `aside`: the same rows in a scratch of 128 cells
   module _ (n key : ℕ) (s : List ℕ) (rows room : ℕ) (r : Held nodes left counts ars n s rows room) (small : room ≤ 64) (z x : List ℕ) (len : length z ≡ 128) (q : x ≡ take rows s ++ drop rows z) where
@@ -158,10 +139,6 @@ module _ (bytes nodes left counts ars : List ℕ) where
         let m = matrix nodes left n (take rows s) in
         let less : suc (n - 1) ≡ n = omega (arith, r .some) in
         omega (arith, size-key bytes ars (n - 1) m key z (low key) (key-seen sn p), ap (λ (j : ℕ). size j m) less, either (ltb (length s) (rows + rows)))
-      where
-        either : (b : Bool) → cond b 702 700 ≤ 702
-        either true = omega arith
-        either false = omega arith
 
     pub each-falls : (t : ℕ) (e : List ℕ) → take rows e ≡ take rows s → 0 < more → 1024 * size n (matrix nodes left n (take rows s)) + more ≡ t
         → 1024 * size n (matrix nodes left n (take rows e)) + (more - 1) < t
@@ -278,27 +255,24 @@ module _ (bytes nodes left counts ars : List ℕ) where
             less = omega arith
 
     module _ (out : List ℕ) (calls : ℕ) where
-      pub is-cells : room < rows * n → Sought s rows s path path alts alts depth out out written found calls room Over (turned (under ars (pathOf path alts depth)) (missingOf bytes counts ars n (matrix nodes left n (take rows s))))
-      is-cells l = sought-same s rows s path path alts alts depth out out written found calls room Over _ _ (entered body refl) (sought-cells s rows path alts depth out written found calls room (rows * n) (turned (under ars (pathOf path alts depth)) body) l)
-
-      pub is-calls : 65536 ≤ calls → Sought s rows s path path alts alts depth out out written found calls room Over (turned (under ars (pathOf path alts depth)) (missingOf bytes counts ars n (matrix nodes left n (take rows s))))
-      is-calls l = sought-same s rows s path path alts alts depth out out written found calls room Over _ _ (entered body refl) (sought-calls s rows path alts depth out written found calls room (rows * n) (turned (under ars (pathOf path alts depth)) body) l)
+      pub is-past : (v : Bool) → v ≡ past calls (rows * n) room → v ≡ true → Sought s rows s path path alts alts depth out out written found calls room Over (turned (under ars (pathOf path alts depth)) (missingOf bytes counts ars n (matrix nodes left n (take rows s))))
+      is-past v e q = sought-same s rows s path path alts alts depth out out written found calls room Over _ _ (entered body refl)
+          (passed calls (rows * n) room v e q
+          (sought-cells s rows path alts depth out written found calls room (rows * n) (turned (under ars (pathOf path alts depth)) body))
+          (sought-calls s rows path alts depth out written found calls room (rows * n) (turned (under ars (pathOf path alts depth)) body)))
 
       module _ (fit : rows * n ≤ room) (lt : calls < 65536) where
-        module _ (z : rows ≡ 0) (v : Spelt) (oe : List ℕ) (h : Spread out written found (under ars (pathOf path alts depth) (replicate n 0 ∷ [])) v oe) (pe : List ℕ) (pq : pe ≡ path) where
-          pub is-leaf-over : v ≡ spelling.Over → Sought s rows s path pe alts alts depth out oe written found calls room Over (turned (under ars (pathOf path alts depth)) (missingOf bytes counts ars n (matrix nodes left n (take rows s))))
-          is-leaf-over q = sought-same s rows s path pe alts alts depth out oe written found calls room Over _ _ (entered (plain (replicate n 0 ∷ [])) (in-none z))
-              (sought-leaf-over s rows path alts depth out written found calls room (rows * n) (under ars (pathOf path alts depth) (replicate n 0 ∷ [])) fit lt v oe h pe pq q)
+        pub is-leaf : rows ≡ 0 → (v : Spelt) (oe : List ℕ) → Spread out written found (under ars (pathOf path alts depth) (replicate n 0 ∷ [])) v oe → (pe : List ℕ) → pe ≡ path → (x : Seek) → x ≡ counting v calls
+            → Sought s rows s path pe alts alts depth out oe written found calls room x (turned (under ars (pathOf path alts depth)) (missingOf bytes counts ars n (matrix nodes left n (take rows s))))
+        is-leaf z v oe h pe pq x xe = sought-same s rows s path pe alts alts depth out oe written found calls room x _ _ (entered (plain (replicate n 0 ∷ [])) (in-none z))
+            (sought-leaf s rows path alts depth out written found calls room (rows * n) (under ars (pathOf path alts depth) (replicate n 0 ∷ [])) fit lt v oe h pe pq x xe)
 
-          pub is-leaf : (w k : ℕ) → v ≡ spelling.Done w k → Sought s rows s path pe alts alts depth out oe written found calls room (Done w k (calls + 1)) (turned (under ars (pathOf path alts depth)) (missingOf bytes counts ars n (matrix nodes left n (take rows s))))
-          is-leaf w k q = sought-same s rows s path pe alts alts depth out oe written found calls room (Done w k (calls + 1)) _ _ (entered (plain (replicate n 0 ∷ [])) (in-none z))
-              (sought-leaf s rows path alts depth out written found calls room (rows * n) (under ars (pathOf path alts depth) (replicate n 0 ∷ [])) fit lt v oe h pe pq w k q)
-
-        pub is-zero : 0 < rows → n ≡ 0 → Sought s rows s path path alts alts depth out out written found calls room (Done written found (calls + 1)) (turned (under ars (pathOf path alts depth)) (missingOf bytes counts ars n (matrix nodes left n (take rows s))))
-        is-zero l z = sought-same s rows s path path alts alts depth out out written found calls room (Done written found (calls + 1)) _ _
-            (ap (λ (x : Rows). holding (rows * n) (plain x)) (sym (under-none ars (pathOf path alts depth))) ∙ entered (plain []) (in-zero l z))
-            (sought-enter s rows s path path alts alts depth out out written found calls room (Done written found (calls + 1)) (rows * n) (plain []) fit
-            (sought-none s rows path alts depth out written found (calls + 1) (room - rows * n) 0 (omega arith) (tr .within) (tr .few)))
+        pub is-zero : 0 < rows → n ≡ 0 → (x : Seek) → x ≡ Done written found (calls + 1) → Sought s rows s path path alts alts depth out out written found calls room x (turned (under ars (pathOf path alts depth)) (missingOf bytes counts ars n (matrix nodes left n (take rows s))))
+        is-zero l z x xe = sought-same s rows s path path alts alts depth out out written found calls room x _ _
+            (ap (λ (y : Rows). holding (rows * n) (plain y)) (sym (under-none ars (pathOf path alts depth))) ∙ entered (plain []) (in-zero l z))
+            (sought-enter s rows s path path alts alts depth out out written found calls room x (rows * n) (plain []) fit
+            (subst (λ (y : Seek). Sought s rows s path path alts alts depth out out written found (calls + 1) (room - rows * n) y (plain [])) (sym xe)
+            (sought-none s rows path alts depth out written found (calls + 1) (room - rows * n) 0 (omega arith) (tr .within) (tr .few))))
 
         -- a column, by what is seen in it
         module _ (some : 0 < rows) (pos : 0 < n) where
@@ -322,60 +296,38 @@ module _ (bytes nodes left counts ars : List ℕ) where
           found-is : (x : Ctors) → x ≡ ctorsOf counts (map (headAt nodes left n) (take rows s)) (seenOf counts (map (headAt nodes left n) (take rows s))) → x ≡ ctorsOf counts (map headOf m) (seenOf counts (map headOf m))
           found-is x q = q ∙ ap (λ (hs : List ℕ). ctorsOf counts hs (seenOf counts hs)) (sym hd)
 
-          module _ (b k : ℕ) (q : Complete b k ≡ ctorsOf counts (map (headAt nodes left n) (take rows s)) (seenOf counts (map (headAt nodes left n) (take rows s)))) where
-            full-is : (hs : List ℕ) (x : Seen) → Complete b k ≡ ctorsOf counts hs x → (x ≡ full b) × (k ≡ countOf counts b)
-            unfolding ctorsOf
-            full-is hs bare z = clash (cc)
-            full-is hs (part c) z = clash (cc)
-            full-is hs (full c) z =
-                let y : b ≡ c = cc in
-                let w : k ≡ countOf counts c = cc in
-                (ap full (sym y), w ∙ ap (countOf counts) (sym y))
-
-            all-seen : Whole counts (map (headAt nodes left n) (take rows s)) b
-            all-seen = seen-whole counts (map (headAt nodes left n) (take rows s)) b (full-is (map (headAt nodes left n) (take rows s)) (seenOf counts (map (headAt nodes left n) (take rows s))) q .0)
-
-            pub full-listed : Listed (map (headAt nodes left n) (take rows s)) b k
-            full-listed = subst (Listed (map (headAt nodes left n) (take rows s)) b) (sym (full-is (map (headAt nodes left n) (take rows s)) (seenOf counts (map (headAt nodes left n) (take rows s))) q .1)) (all-seen .listed)
-
-            pub full-range : (0 < b) × (b < 32768) × (k ≡ countOf counts b)
-            full-range = (all-seen .positive, all-seen .small, full-is (map (headAt nodes left n) (take rows s)) (seenOf counts (map (headAt nodes left n) (take rows s))) q .1)
-
-            pub is-full : (e pe alts₂ oe : List ℕ) (v : Seek)
+          module _ (x : Ctors) (xe : x ≡ ctorsOf counts (map (headAt nodes left n) (take rows s)) (seenOf counts (map (headAt nodes left n) (take rows s)))) where
+            pub is-full : (b k : ℕ) → x ≡ Complete b k → (e pe alts₂ oe : List ℕ) (v : Seek)
                 → Sought s rows e path pe alts alts₂ depth out oe written found (calls + 1) (room - rows * n) v (turned (under ars (pathOf path alts depth)) (gatherFrom (missingBy bytes counts ars (missingOf bytes counts ars) (n - 1) (matrix nodes left n (take rows s))) b k))
                 → Sought s rows e path pe alts alts₂ depth out oe written found calls room v (turned (under ars (pathOf path alts depth)) (missingOf bytes counts ars n (matrix nodes left n (take rows s))))
             unfolding m
-            is-full e pe alts₂ oe v h =
-                let f = full-is (map headOf m) (seenOf counts (map headOf m)) (found-is (Complete b k) q) in
+            is-full b k q e pe alts₂ oe v h =
+                let f = complete-is counts (map headOf m) x b k q (seenOf counts (map headOf m)) (found-is x xe) in
                 let o = in-seen some pos ∙ ap (λ (x : Seen). missingSeen bytes counts ars (missingOf bytes counts ars) x (n - 1) m) (f .0) ∙ ap (gatherFrom (missingBy bytes counts ars (missingOf bytes counts ars) (n - 1) m) b) (sym (f .1)) in
                 sought-same s rows e path pe alts alts₂ depth out oe written found calls room v _ _ (entered (gatherFrom (missingBy bytes counts ars (missingOf bytes counts ars) (n - 1) m) b k) o)
                 (sought-enter s rows e path pe alts alts₂ depth out oe written found calls room v (rows * n) (turned (under ars (pathOf path alts depth)) (gatherFrom (missingBy bytes counts ars (missingOf bytes counts ars) (n - 1) m) b k)) fit h)
 
-          module _ (b g : ℕ) (q : Open b g ≡ ctorsOf counts (map (headAt nodes left n) (take rows s)) (seenOf counts (map (headAt nodes left n) (take rows s)))) where
-            pub open-node : b + 32 < 65536
-            open-node = open-low counts (map headOf m) few (seenOf counts (map headOf m)) refl b g (found-is (Open b g) q)
+            module _ (b g : ℕ) (q : x ≡ Open b g) where
+              pub open-node : b + 32 < 65536
+              open-node = open-low counts (map headOf m) few (seenOf counts (map headOf m)) refl b g (sym q ∙ found-is x xe)
 
-            pub open-falls : (t : ℕ) → 1024 * size n (matrix nodes left n (take rows s)) + 600 ≡ t
-                → 1024 * size (n - 1 + arOf ars 0) (rowsBy bytes 0 (arOf ars 0) (matrix nodes left n (take rows s))) + cond (ltb (length s) (rows + rows)) 702 700 < t
-            open-falls t e =
-                let y = matrix nodes left n (take rows s) in
-                let less : suc (n - 1) ≡ n = omega arith in
-                omega (arith, size-wild bytes ars (n - 1) y, ap (λ (j : ℕ). size j y) less, either (ltb (length s) (rows + rows)))
-              where
-                either : (x : Bool) → cond x 702 700 ≤ 702
-                either true = omega arith
-                either false = omega arith
+              pub open-falls : (t : ℕ) → 1024 * size n (matrix nodes left n (take rows s)) + 600 ≡ t
+                  → 1024 * size (n - 1 + arOf ars 0) (rowsBy bytes 0 (arOf ars 0) (matrix nodes left n (take rows s))) + cond (ltb (length s) (rows + rows)) 702 700 < t
+              open-falls t e =
+                  let y = matrix nodes left n (take rows s) in
+                  let less : suc (n - 1) ≡ n = omega arith in
+                  omega (arith, size-wild bytes ars (n - 1) y, ap (λ (j : ℕ). size j y) less, either (ltb (length s) (rows + rows)))
 
-            pub is-open : (e pe alts₂ oe : List ℕ) (v : Seek)
-                → Sought s rows e (set path depth b) pe (set alts depth g) alts₂ (depth + 1) out oe written found (calls + 1) (room - rows * n) v (turned (under ars (pathOf (set path depth b) (set alts depth g) (depth + 1))) (missingBy bytes counts ars (missingOf bytes counts ars) (n - 1) (matrix nodes left n (take rows s)) 0))
-                → Sought s rows e path pe alts alts₂ depth out oe written found calls room v (turned (under ars (pathOf path alts depth)) (missingOf bytes counts ars n (matrix nodes left n (take rows s))))
-            unfolding m
-            is-open e pe alts₂ oe v h =
-                let w = missingBy bytes counts ars (missingOf bytes counts ars) (n - 1) m 0 in
-                let o = in-seen some pos ∙ sym (open-walk bytes counts ars (missingOf bytes counts ars) (n - 1) m few b g (found-is (Open b g) q)) in
-                let st = seen-trail in
-                sought-same s rows e path pe alts alts₂ depth out oe written found calls room v _ _ (entered (turned (stepped ars (stepOf b g)) w) o)
-                (sought-enter s rows e path pe alts alts₂ depth out oe written found calls room v (rows * n) (turned (under ars (pathOf path alts depth)) (turned (stepped ars (stepOf b g)) w)) fit
-                (sought-step s rows e path pe alts alts₂ depth out oe written found (calls + 1) (room - rows * n) v b g (turned (under ars (pathOf path alts depth)) (turned (stepped ars (stepOf b g)) w))
-                (sought-same s rows e (set path depth b) pe (set alts depth g) alts₂ (depth + 1) out oe written found (calls + 1) (room - rows * n) v _ _
-                (stepped-walk path alts depth b g w (omega (arith, st .deep, st .longPath)) (omega (arith, st .deep, st .longAlts))) h)))
+              pub is-open : (e pe alts₂ oe : List ℕ) (v : Seek)
+                  → Sought s rows e (set path depth b) pe (set alts depth g) alts₂ (depth + 1) out oe written found (calls + 1) (room - rows * n) v (turned (under ars (pathOf (set path depth b) (set alts depth g) (depth + 1))) (missingBy bytes counts ars (missingOf bytes counts ars) (n - 1) (matrix nodes left n (take rows s)) 0))
+                  → Sought s rows e path pe alts alts₂ depth out oe written found calls room v (turned (under ars (pathOf path alts depth)) (missingOf bytes counts ars n (matrix nodes left n (take rows s))))
+              unfolding m
+              is-open e pe alts₂ oe v h =
+                  let w = missingBy bytes counts ars (missingOf bytes counts ars) (n - 1) m 0 in
+                  let o = in-seen some pos ∙ sym (open-walk bytes counts ars (missingOf bytes counts ars) (n - 1) m few b g (sym q ∙ found-is x xe)) in
+                  let st = seen-trail in
+                  sought-same s rows e path pe alts alts₂ depth out oe written found calls room v _ _ (entered (turned (stepped ars (stepOf b g)) w) o)
+                  (sought-enter s rows e path pe alts alts₂ depth out oe written found calls room v (rows * n) (turned (under ars (pathOf path alts depth)) (turned (stepped ars (stepOf b g)) w)) fit
+                  (sought-step s rows e path pe alts alts₂ depth out oe written found (calls + 1) (room - rows * n) v b g (turned (under ars (pathOf path alts depth)) (turned (stepped ars (stepOf b g)) w))
+                  (sought-same s rows e (set path depth b) pe (set alts depth g) alts₂ (depth + 1) out oe written found (calls + 1) (room - rows * n) v _ _
+                  (stepped-walk path alts depth b g w (omega (arith, st .deep, st .longPath)) (omega (arith, st .deep, st .longAlts))) h)))

@@ -13,8 +13,9 @@ use Rattle.scope.proofs.Tests.{clash}
 use Rattle.matrix.specs.Numbers.{Rows, arOf, headOf, firstOf, mem, allIn, countOf, Seen, bare, part, full, seenOf, recover, eachRow}
 use Rattle.walks.specs.Walks.{unseenFrom, missingBy, missingSeen}
 use Rattle.matrix.specs.Places.{Few}
-use Rattle.paths.specs.Path.{one, each, chosen, stepped, stepOf, unseenSet, ctorsOf}
-use Rattle.paths.specs.declared.Ctors.the-variants.{Open}
+use Rattle.ctors.specs.Sets.{unseenSet, ctorsOf}
+use Rattle.ctors.specs.declared.Ctors.the-variants.{Open}
+use Rattle.paths.specs.Path.{one, each, chosen, stepped, stepOf}
 use Rattle.matrix.proofs.Seen.{first-in, ctor-range, first-few, partly}
 
 -- the constructors of the set are the unseen ones

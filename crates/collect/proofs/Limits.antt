@@ -12,8 +12,8 @@ use Rattle.scope.proofs.Tests.{clash}
 use Rattle.matrix.specs.Numbers.{Rows}
 use Rattle.paths.specs.Spread.{nodesOf, fitted}
 use Rattle.collect.specs.Ready.{sought}
-use Rattle.paths.specs.declared.Spelt.the-variants as spelt
-use Rattle.collect.specs.declared.Seek.the-variants.{Done, Over}
+use Rattle.outcomes.specs.declared.Spelt.the-variants as spelt
+use Rattle.outcomes.specs.declared.Seek.the-variants.{Done, Over}
 use Rattle.matrix.proofs.Orders.{le-or, and-false}
 use Rattle.walks.proofs.Limits.{within-both, past-calls, past-cells}
 use Rattle.paths.proofs.PathSpread.{nodes-append, fitted-done, fitted-over}
@@ -83,15 +83,15 @@ module _ (c room written found cells : ℕ) where
 
   -- a leaf: its rows fit, or they do not
   module _ (m : Rows) (l : cells ≤ room) (h : c < 65536) where
-    pub leaf-done : (n k : ℕ) → spelt.Done n k ≡ fitted written found m → Done n k (c + 1) ≡ sought c room written found (holding cells (plain m))
-    leaf-done n k e =
+    pub done-leaf : (n k : ℕ) → spelt.Done n k ≡ fitted written found m → Done n k (c + 1) ≡ sought c room written found (holding cells (plain m))
+    done-leaf n k e =
         let f = fitted-done written found m n k e in
         let x : n ≡ written + nodesOf m = f .nodes in
         let y : k ≡ found + length m = f .count in
         ap₂ (λ (u v : ℕ). Done u v (c + 1)) x y ∙ sym (sought-in c room written found (holding cells (plain m)) (omega arith) (omega arith) (omega (arith, f .inside)))
 
-    pub leaf-over : spelt.Over ≡ fitted written found m → Over ≡ sought c room written found (holding cells (plain m))
-    leaf-over e = sym (past-nodes-is c room written found (holding cells (plain m)) (fitted-over written found m e))
+    pub over-leaf : spelt.Over ≡ fitted written found m → Over ≡ sought c room written found (holding cells (plain m))
+    over-leaf e = sym (past-nodes-is c room written found (holding cells (plain m)) (fitted-over written found m e))
 
 pub none-done : (c room written found : ℕ) → c ≤ 65536 → written ≤ 4096 → Done written found c ≡ sought c room written found (plain [])
 none-done c room written found l k = zeros ∙ sym (sought-in c room written found (plain []) (omega arith) (omega arith) (omega arith))

@@ -5,8 +5,8 @@ use Prim.Native.Nat.{ℕ}
 use lib.ListN.{take}
 use Rattle.scope.specs.Walks.{Walk}
 use Rattle.matrix.specs.Numbers.{Rows}
-use Rattle.collect.specs.declared.Seek.{Seek}
-use Rattle.collect.specs.declared.Seek.the-variants as seek
+use Rattle.outcomes.specs.declared.Seek.{Seek}
+use Rattle.outcomes.specs.declared.Seek.the-variants as seek
 use Rattle.collect.specs.Ready.{Sought}
 
 module _ {s e e′ path p p′ alts a a′ out o o′ : List ℕ} {rows depth written found calls room : ℕ} {r r′ : Seek} {w : Walk Rows} (h : Sought s rows e path p alts a depth out o written found calls room r w) (k : Sought s rows e′ path p′ alts a′ depth out o′ written found calls room r′ w) where

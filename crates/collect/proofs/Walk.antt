@@ -13,13 +13,14 @@ use Rattle.scope.proofs.Tests.{clash}
 use Rattle.matrix.specs.Numbers.{Rows}
 use Rattle.paths.specs.Spread.{Spread, Spelling}
 use Rattle.collect.specs.Ready.{Trail, Sought}
-use Rattle.paths.specs.declared.Spelt.{Spelt}
-use Rattle.paths.specs.declared.Spelt.the-variants as spelt
-use Rattle.collect.specs.declared.Seek.{Seek}
-use Rattle.collect.specs.declared.Seek.the-variants.{Done, Over}
+use Rattle.outcomes.specs.Past.{counting}
+use Rattle.outcomes.specs.declared.Spelt.{Spelt}
+use Rattle.outcomes.specs.declared.Spelt.the-variants as spelt
+use Rattle.outcomes.specs.declared.Seek.{Seek}
+use Rattle.outcomes.specs.declared.Seek.the-variants.{Done, Over}
 use Rattle.matrix.proofs.Orders.{same-or}
 use Rattle.paths.proofs.PathSpread.{flatten-append, flatten-length}
-use Rattle.collect.proofs.Limits.{IsDone, done-is, over-cells, over-calls, enter, leaf-done, leaf-over, none-done, join-over, join-then}
+use Rattle.collect.proofs.Limits.{IsDone, done-is, over-cells, over-calls, enter, done-leaf, over-leaf, none-done, join-over, join-then}
 
 -- the path with one step more
 take-set : (p : List ℕ) (d x : ℕ) → take d (set p d x) ≡ take d p
@@ -90,18 +91,25 @@ module _ (s : List ℕ) (rows : ℕ) (path alts : List ℕ) (depth : ℕ) (out :
   sought-none l k f = record { kept = refl; keptPath = refl; keptAlts = refl; is = none-done calls room written found l k; text = λ w n c q. refl; few = λ w n c q. let x : written ≡ w = cc in let y : found ≡ n = cc in omega arith }
 
   module _ (m : Rows) (fits : cells ≤ room) (lt : calls < 65536) (v : Spelt) (oe : List ℕ) (h : Spread out written found m v oe) (pe : List ℕ) (pq : pe ≡ path) where
-    pub sought-leaf-over : v ≡ spelt.Over → Sought s rows s path pe alts alts depth out oe written found calls room Over (holding cells (plain m))
-    sought-leaf-over q = record { kept = refl; keptPath = ap (take depth) pq; keptAlts = refl; is = leaf-over calls room written found cells m fits lt (sym q ∙ h .is); text = λ w k c z. clash (cc); few = λ w k c z. clash (cc) }
+    leaf-over : v ≡ spelt.Over → Sought s rows s path pe alts alts depth out oe written found calls room Over (holding cells (plain m))
+    leaf-over q = record { kept = refl; keptPath = ap (take depth) pq; keptAlts = refl; is = over-leaf calls room written found cells m fits lt (sym q ∙ h .is); text = λ w k c z. clash (cc); few = λ w k c z. clash (cc) }
 
-    pub sought-leaf : (n k : ℕ) → v ≡ spelt.Done n k → Sought s rows s path pe alts alts depth out oe written found calls room (Done n k (calls + 1)) (holding cells (plain m))
-    sought-leaf n k q = record {
+    leaf-done : (n k : ℕ) → v ≡ spelt.Done n k → Sought s rows s path pe alts alts depth out oe written found calls room (Done n k (calls + 1)) (holding cells (plain m))
+    leaf-done n k q = record {
       kept = refl;
       keptPath = ap (take depth) pq;
       keptAlts = refl;
-      is = leaf-done calls room written found cells m fits lt n k (sym q ∙ h .is);
+      is = done-leaf calls room written found cells m fits lt n k (sym q ∙ h .is);
       text = λ w j c z. h .text n k q;
       few = λ w j c z. let x : n ≡ w = cc in let y : k ≡ j = cc in omega (arith, h .few n k q);
     }
+
+    pub sought-leaf : (x : Seek) → x ≡ counting v calls → Sought s rows s path pe alts alts depth out oe written found calls room x (holding cells (plain m))
+    sought-leaf x e = go v refl
+      where
+        go : (u : Spelt) → v ≡ u → Sought s rows s path pe alts alts depth out oe written found calls room x (holding cells (plain m))
+        go (spelt.Done n k) q = subst (λ (y : Seek). Sought s rows s path pe alts alts depth out oe written found calls room y (holding cells (plain m))) (sym (e ∙ ap (λ (u : Spelt). counting u calls) q)) (leaf-done n k q)
+        go spelt.Over q = subst (λ (y : Seek). Sought s rows s path pe alts alts depth out oe written found calls room y (holding cells (plain m))) (sym (e ∙ ap (λ (u : Spelt). counting u calls) q)) (leaf-over q)
 
 -- one walk, then another
 module _ (s : List ℕ) (rows : ℕ) (e path pe alts ae : List ℕ) (depth : ℕ) (out oe : List ℕ) (written found calls room : ℕ) (r : Seek) (a b : Walk Rows) (h : Sought s rows e path pe alts ae depth out oe written found calls room r a) where

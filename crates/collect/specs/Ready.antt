@@ -9,8 +9,8 @@ use lib.Dec.{leb}
 use Rattle.scope.specs.Limits.{maxMissing}
 use Rattle.scope.specs.Lists.{flatten}
 use Rattle.scope.specs.Walks.{Walk}
-use Rattle.collect.specs.declared.Seek.{Seek}
-use Rattle.collect.specs.declared.Seek.the-variants as seek
+use Rattle.outcomes.specs.declared.Seek.{Seek}
+use Rattle.outcomes.specs.declared.Seek.the-variants as seek
 use Rattle.matrix.specs.Numbers.{Rows}
 use Rattle.matrix.specs.Places.{Places, Sizes}
 use Rattle.walks.specs.Limits.{within}

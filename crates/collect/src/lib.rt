@@ -1,10 +1,13 @@
 // `collect_missing_patterns`. The walk carries the path from the root, and a leaf writes its rows out.
+use ctors::Ctors;
+use ctors::collect_ctors;
 use matrix::arity;
 use matrix::copy;
 use matrix::specialize;
-use paths::Ctors;
-use paths::Spelt;
-use paths::collect_ctors;
+use outcomes::Seek;
+use outcomes::Spelt;
+use outcomes::counted;
+use outcomes::over;
 use paths::put_rows;
 ghost use Prim.Native.Nat.{_+_, _-_, _≤_, _<_};
 ghost use mathlib.Core.List.{map};
@@ -15,15 +18,6 @@ ghost use Rattle.matrix.specs.Numbers.{matrix};
 ghost use Rattle.matrix.specs.Places.{headAt, Listed};
 ghost use Rattle.paths.specs.Path.{under, pathOf};
 ghost use Rattle.collect.specs.Ready.{Trail, Opened, Held, Sought};
-
-pub enum Seek {
-    Done {
-        written: usize,
-        rows: usize,
-        calls: usize,
-    },
-    Over,
-}
 
 // The walk into the matrix specialised by key; the path has the step to it already.
 fn into(
@@ -250,33 +244,19 @@ pub fn collect_missing_patterns(
     ensures { λ r. ⌜ Sought (now (s .entry)) rows (now (s .exit)) (now (path .entry)) (now (path .exit)) (now (alts .entry)) (now (alts .exit)) depth (now (out .entry)) (now (out .exit)) written found calls room r (turned (under (now (arities .entry)) (pathOf (now (path .entry)) (now (alts .entry)) depth)) (missingOf (now (bytes .entry)) (now (counts .entry)) (now (arities .entry)) n (matrix (now (nodes .entry)) (now (left .entry)) n (take rows (now (s .entry)))))) ⌝ }
 {
     let cells = rows * n;
-    if room < cells {
-        return Seek::Over;
-    }
-    if 65536 <= calls {
+    if over(calls, cells, room) {
         return Seek::Over;
     }
     if rows == 0 {
         let r = put_rows(arities, path, alts, depth, depth, n, out, written, found);
-        let c = calls + 1;
-        return match r {
-            Spelt::Over => Seek::Over,
-            Spelt::Done {
-                written: w,
-                rows: m,
-            } => Seek::Done {
-                written: w,
-                rows: m,
-                calls: c,
-            },
-        };
+        return counted(r, calls);
     }
     if n == 0 {
-        return Seek::Done {
+        let none = Spelt::Done {
             written,
             rows: found,
-            calls: calls + 1,
         };
+        return counted(none, calls);
     }
     let column = collect_ctors(nodes, left, counts, &s[..rows], n);
     match column {

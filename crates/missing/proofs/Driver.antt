@@ -24,8 +24,8 @@ use Rattle.paths.specs.Path.{under, pathOf}
 use Rattle.paths.specs.Spread.{nodesOf}
 use Rattle.collect.specs.Ready.{Opened, Trail, Sought, sought}
 use Rattle.missing.specs.Missing.{missingRows, outAfter, foundOf, Finds, FindsAll}
-use Rattle.collect.specs.declared.Seek.{Seek}
-use Rattle.collect.specs.declared.Seek.the-variants.{Done, Over}
+use Rattle.outcomes.specs.declared.Seek.{Seek}
+use Rattle.outcomes.specs.declared.Seek.the-variants.{Done, Over}
 use Rattle.matrix.proofs.Fronts.{front-length}
 use Rattle.walks.proofs.BridgeTable.{clause-says, rows-at}
 use Rattle.walks.proofs.Limits.{within-not, test-not, not-or}

@@ -13,8 +13,8 @@ use Rattle.scope.specs.Patterns.{Matrix}
 use Rattle.scope.specs.Walks.{Walk, collectMissingPatterns}
 use Rattle.scope.specs.Blocks.{nodesIn}
 use Rattle.layout.specs.Nodes.{rowOf}
-use Rattle.collect.specs.declared.Seek.{Seek}
-use Rattle.collect.specs.declared.Seek.the-variants as seek
+use Rattle.outcomes.specs.declared.Seek.{Seek}
+use Rattle.outcomes.specs.declared.Seek.the-variants as seek
 use Rattle.matrix.specs.Numbers.{Rows}
 use Rattle.walks.specs.Walks.{missingOf}
 use Rattle.walks.specs.Limits.{within}

@@ -1,8 +1,8 @@
 // The rows that no clause covers.
 use cells::clear;
-use collect::Seek;
 use collect::collect_missing_patterns;
 use matrix::copy;
+use outcomes::Seek;
 ghost use mathlib.Core.Path.{_≡_};
 ghost use Prim.Native.Nat.{_≤_};
 ghost use lib.ListN.{length, replicate};

@@ -3,5 +3,4 @@ pub mod PathLaws
 pub mod PathSpread
 pub mod PathPuts
 pub mod PathChoose
-pub mod PathColumn
 pub mod Once

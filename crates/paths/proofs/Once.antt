@@ -3,8 +3,8 @@ use mathlib.Core.Path.{_≡_, sym, _∙_}
 use mathlib.Core.List.{List}
 use Prim.Native.Nat.{ℕ}
 use Rattle.matrix.specs.Numbers.{Rows}
-use Rattle.paths.specs.declared.Spelt.{Spelt}
-use Rattle.paths.specs.declared.Spelt.the-variants as spelt
+use Rattle.outcomes.specs.declared.Spelt.{Spelt}
+use Rattle.outcomes.specs.declared.Spelt.the-variants as spelt
 use Rattle.paths.specs.Spread.{Spread}
 
 module _ {d a b : List ℕ} {written rows : ℕ} {m : Rows} {r s : Spelt} (h : Spread d written rows m r a) (k : Spread d written rows m s b) where

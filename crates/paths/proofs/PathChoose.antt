@@ -1,5 +1,6 @@
 -- The calls of `put_rows` and `choose` of one another, over plain lists: what each asks, and what each answer gives.
-use mathlib.Core.Path.{_≡_, sym, ap, ap₂, subst, _∙_}
+use mathlib.Core.Path.{_≡_, sym, ap, ap₂, subst, subst₂, _∙_}
+use mathlib.Core.Logic.{⊎-elim}
 use mathlib.Core.List.{List, [], _∷_, _++_}
 use Prim.Native.Nat.{ℕ, _+_, _-_, _/_, _%_, _≤_, _<_}
 use native.Mathlib.Nat.{sub-zero}
@@ -7,8 +8,11 @@ use native.Mathlib.Omega.{arith}
 use lib.ListN.{getD, set, replicate, length-set}
 use lib.Seq.{getD-set-other, set-set, set-getD}
 use Rattle.matrix.specs.Numbers.{Rows, arOf}
-use Rattle.paths.specs.declared.Spelt.{Spelt}
-use Rattle.paths.specs.declared.Spelt.the-variants.{Done, Over}
+use Rattle.outcomes.specs.declared.Spelt.{Spelt}
+use Rattle.outcomes.specs.declared.Spelt.the-variants.{Done, Over}
+use Rattle.outcomes.specs.Past.{fitting}
+use Rattle.outcomes.proofs.Tests.{fits, fits-not}
+use Rattle.matrix.proofs.Orders.{le-or}
 use Rattle.paths.specs.Path.{Step, chosen, under, pathOf, spelt}
 use Rattle.paths.specs.Spread.{Put, Spread, Spelling}
 use Rattle.paths.proofs.PathLaws.{under-append, under-none, chosen-none, chosen-not, chosen-is, path-set, spelt-set, spelt-least, rows-one, rows-each, row-chosen}
@@ -25,11 +29,12 @@ module _ (ars path alts : List ℕ) (depth k n written rows : ℕ) (sp : Spellin
   all-chosen z = ap (λ (j : ℕ). under ars (pathOf path alts j) (spelt ars path alts j (depth - j) n ∷ [])) z ∙ ap (λ (j : ℕ). spelt ars path alts 0 j n ∷ []) (sub-zero depth)
 
   module _ (z : k ≡ 0) (d : List ℕ) (at : ℕ) (e : List ℕ) (p : Put d written (spelt ars path alts 0 depth n) at e) where
-    pub rows-over : 4096 < at → Spread d written rows (under ars (pathOf path alts k) (spelt ars path alts k (depth - k) n ∷ [])) Over e
-    rows-over l = subst (λ (m : Rows). Spread d written rows m Over e) (sym (all-chosen z)) (spread-over d written rows (spelt ars path alts 0 depth n) at e p l)
-
-    pub rows-done : at ≤ 4096 → Spread d written rows (under ars (pathOf path alts k) (spelt ars path alts k (depth - k) n ∷ [])) (Done at (rows + 1)) e
-    rows-done l = subst (λ (m : Rows). Spread d written rows m (Done at (rows + 1)) e) (sym (all-chosen z)) (spread-one d written rows (spelt ars path alts 0 depth n) at e p l (sp .few) (omega (arith, spelt-least ars path alts n depth 0, sp .some)))
+    pub rows-fit : (v : Spelt) → v ≡ fitting at rows → Spread d written rows (under ars (pathOf path alts k) (spelt ars path alts k (depth - k) n ∷ [])) v e
+    rows-fit v q = subst₂ (λ (m : Rows) (x : Spelt). Spread d written rows m x e) (sym (all-chosen z)) (sym q)
+        (⊎-elim
+        (λ l. subst (λ (x : Spelt). Spread d written rows (spelt ars path alts 0 depth n ∷ []) x e) (fits at rows l) (spread-one d written rows (spelt ars path alts 0 depth n) at e p l (sp .few) (omega (arith, spelt-least ars path alts n depth 0, sp .some))))
+        (λ l. subst (λ (x : Spelt). Spread d written rows (spelt ars path alts 0 depth n ∷ []) x e) (fits-not at rows l) (spread-over d written rows (spelt ars path alts 0 depth n) at e p l))
+        (le-or at 4096))
 
   module _ (pos : 0 < k) (d : List ℕ) (r : Spelt) (e : List ℕ) where
     pub rows-on : getD alts (k - 1) 0 ≡ 0

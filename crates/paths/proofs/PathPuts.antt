@@ -1,17 +1,16 @@
--- What the writing loops hold to: what is still to come, put after what stands, is the whole; and the set of the flags that are down.
+-- What the writing loops hold to: what is still to come, put after what stands, is the whole.
 use mathlib.Core.Path.{_≡_, sym, ap, ap₂, subst, _∙_}
-use mathlib.Core.Bool.{Bool, true, false, not, cond}
+use mathlib.Core.Bool.{Bool, cond}
 use mathlib.Core.List.{List, [], _∷_, _++_}
-use Prim.Native.Nat.{ℕ, zero, suc, _+_, _*_, _-_, _^_, _≤_, _<_}
-use native.Mathlib.Nat.{add-zero, sub-zero, two-pow-succ, pow-le-pow-right}
+use Prim.Native.Nat.{ℕ, suc, _+_, _-_, _≤_, _<_}
+use native.Mathlib.Nat.{add-zero, sub-zero}
 use native.Mathlib.Omega.{arith}
 use lib.ListN.{length, getD, set, replicate, length-append}
 use lib.Seq.{sets}
 use borrow.Author.Tests.{eq-eqb, ne-eqb}
 use Rattle.cells.proofs.Laws.{sets-sets}
-use Rattle.scope.specs.Lists.{bit}
 use Rattle.matrix.specs.Numbers.{arOf}
-use Rattle.paths.specs.Path.{spelt1, spelt, downSet}
+use Rattle.paths.specs.Path.{spelt1, spelt}
 use Rattle.paths.specs.Spread.{Put}
 use Rattle.paths.proofs.PathLaws.{spelt-next, spelt-none}
 
@@ -66,32 +65,3 @@ module _ (ars path alts : List ℕ) (depth n : ℕ) where
       let z : depth - i ≡ 0 = omega arith in
       let s : spelt ars path alts i (depth - i) n ≡ replicate n 0 = spelt-none ars path alts n (depth - i) i z in
       record { place = omega (arith, p .place, k, ap length s); text = p .text ∙ ap (sets d at) (sym s) ∙ q }
-
--- flags that are down
-module _ (flags : List Bool) where
-  bit-low : (b : Bool) → bit b ≤ 1
-  bit-low true = omega arith
-  bit-low false = omega arith
-
-  down-low : (i k : ℕ) → downSet flags i k < 2 ^ k
-  unfolding downSet
-  down-low i zero = omega arith
-  down-low i (suc k) = omega (arith, two-pow-succ k, down-low (suc i) k, bit-low (not (getD flags i false)))
-
-  pub down-small : (i k : ℕ) → k ≤ 31 → downSet flags i k < 2147483648
-  down-small i k l =
-      let p : 2 ^ k ≤ 2 ^ 31 = pow-le-pow-right (omega arith) l in
-      omega (arith, down-low i k)
-
-  pub down-next : (i k : ℕ) → i < k → downSet flags i (k - i) ≡ bit (not (getD flags i false)) + 2 * downSet flags (i + 1) (k - (i + 1))
-  unfolding downSet
-  down-next i k l =
-      let n : k - i ≡ suc (k - (i + 1)) = omega arith in
-      let s : suc i ≡ i + 1 = omega arith in
-      ap (downSet flags i) n ∙ ap (λ (j : ℕ). bit (not (getD flags i false)) + 2 * downSet flags j (k - (i + 1))) s
-
-  pub down-none : (i k : ℕ) → k ≤ i → downSet flags i (k - i) ≡ 0
-  unfolding downSet
-  down-none i k l =
-      let n : k - i ≡ 0 = omega arith in
-      ap (downSet flags i) n

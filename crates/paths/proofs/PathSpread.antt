@@ -12,8 +12,8 @@ use Rattle.cells.proofs.Laws.{sets-sets}
 use Rattle.scope.specs.Lists.{flatten}
 use Rattle.scope.proofs.Tests.{clash}
 use Rattle.matrix.specs.Numbers.{Rows}
-use Rattle.paths.specs.declared.Spelt.{Spelt}
-use Rattle.paths.specs.declared.Spelt.the-variants.{Done, Over}
+use Rattle.outcomes.specs.declared.Spelt.{Spelt}
+use Rattle.outcomes.specs.declared.Spelt.the-variants.{Done, Over}
 use Rattle.paths.specs.Spread.{nodesOf, Put, fitted, Spread}
 use Rattle.matrix.proofs.Orders.{le-or}
 

@@ -1,13 +1,10 @@
 -- The path from the root of the missing walk, as the code carries it, and the rows that it says.
-use mathlib.Core.Bool.{Bool, false, not, cond}
+use mathlib.Core.Bool.{cond}
 use mathlib.Core.List.{List, [], _∷_, _++_}
-use Prim.Native.Nat.{ℕ, zero, suc, _+_, _*_, _/_, _%_}
+use Prim.Native.Nat.{ℕ, zero, suc, _/_, _%_}
 use lib.ListN.{getD, replicate}
 use lib.Dec.{eqb}
-use Rattle.scope.specs.Lists.{bit}
-use Rattle.matrix.specs.Numbers.{Rows, arOf, mem, recover, eachRow, countOf, Seen, bare, part, full}
-use Rattle.paths.specs.declared.Ctors.{Ctors}
-use Rattle.paths.specs.declared.Ctors.the-variants.{Complete, Open}
+use Rattle.matrix.specs.Numbers.{Rows, arOf, recover, eachRow}
 
 -- a step: a node; or each unseen constructor, the first of the type and a set of 32 bits telling which
 pub data Step : Type 0 where
@@ -46,19 +43,3 @@ spelt1 ars node set = cond (eqb set 0) (node ∷ []) (node ∷ replicate (arOf a
 unfoldable pub spelt : List ℕ → List ℕ → List ℕ → ℕ → ℕ → ℕ → List ℕ
 spelt ars path alts d zero n = replicate n 0
 spelt ars path alts d (suc k) n = spelt1 ars (getD path d 0) (getD alts d 0) ++ spelt ars path alts (suc d) k n
-
--- the flags from i on that are down, k of them, as a set
-unfoldable pub downSet : List Bool → ℕ → ℕ → ℕ
-downSet flags i zero = 0
-downSet flags i (suc k) = bit (not (getD flags i false)) + 2 * downSet flags (suc i) k
-
--- the constructors b, b + 1, .., k of them, that are not in the column, as a set
-unfoldable pub unseenSet : List ℕ → ℕ → ℕ → ℕ
-unseenSet hs b zero = 0
-unseenSet hs b (suc k) = bit (not (mem b hs)) + 2 * unseenSet hs (suc b) k
-
--- what is seen in a column, as the code finds it: all constructors of a type; or the step that is left to take
-unfoldable pub ctorsOf : List ℕ → List ℕ → Seen → Ctors
-ctorsOf cs hs bare = Open 0 0
-ctorsOf cs hs (part b) = Open b (unseenSet hs b (countOf cs b))
-ctorsOf cs hs (full b) = Complete b (countOf cs b)

@@ -8,8 +8,8 @@ use lib.Seq.{sets}
 use lib.Dec.{leb}
 use Rattle.scope.specs.Limits.{maxMissing}
 use Rattle.scope.specs.Lists.{sum, flatten}
-use Rattle.paths.specs.declared.Spelt.{Spelt}
-use Rattle.paths.specs.declared.Spelt.the-variants as spelt
+use Rattle.outcomes.specs.declared.Spelt.{Spelt}
+use Rattle.outcomes.specs.declared.Spelt.the-variants as spelt
 use Rattle.matrix.specs.Numbers.{Rows}
 
 -- the constructors and wildcards of rows

@@ -1,30 +1,15 @@
 // The path from the root of the missing walk: a step is a node, or, where its set is not 0, each constructor of the set,
-// with wildcards inside. What a column adds to it, and the rows that it says, written out.
+// with wildcards inside. The rows that it says, written out.
 use cells::put16;
-use column::all;
-use column::base;
-use column::count;
-use column::first;
-use column::seen;
 use matrix::arity;
+use outcomes::Spelt;
+use outcomes::fit;
 ghost use mathlib.Core.Path.{_≡_};
 ghost use Prim.Native.Nat.{ℕ, _+_, _-_, _^_, _≤_, _<_};
-ghost use mathlib.Core.List.{[], _∷_, map};
+ghost use mathlib.Core.List.{[], _∷_};
 ghost use lib.ListN.{length, getD, set, replicate};
-ghost use Rattle.matrix.specs.Numbers.{seenOf};
-ghost use Rattle.matrix.specs.Places.{headAt, Few};
-ghost use Rattle.paths.specs.Path.{spelt1, spelt, chosen, under, pathOf, downSet, ctorsOf};
+ghost use Rattle.paths.specs.Path.{spelt1, spelt, chosen, under, pathOf};
 ghost use Rattle.paths.specs.Spread.{Put, Spread, Spelling};
-
-pub enum Spelt {
-    Done { written: usize, rows: usize },
-    Over,
-}
-
-pub enum Ctors {
-    Complete { first: u16, count: usize },
-    Open { node: u16, set: u32 },
-}
 
 // n wildcards.
 fn put_wilds(out: &mut [u16], at: usize, n: usize) -> usize
@@ -75,23 +60,6 @@ fn put_row(
     put_wilds(out, at, n)
 }
 
-// The constructors that are not seen, of the first k, as a set.
-fn unseen(flags: [bool; 32], k: usize) -> u32
-    requires { ⌜ k ≤ 32 ⌝ }
-    ensures { λ r. ⌜ r ≡ downSet flags 0 k ⌝ }
-{
-    let mut set: u32 = 0;
-    let mut i = k;
-    while 0 < i {
-        i -= 1;
-        set = 2 * set;
-        if !flags[i] {
-            set += 1;
-        }
-    }
-    set
-}
-
 // The rows of every choice for the first k steps, the others as chosen now; the choices of the innermost vary slowest.
 pub fn put_rows(
     arities: &[u8],
@@ -110,13 +78,7 @@ pub fn put_rows(
 {
     if k == 0 {
         let at = put_row(arities, path, alts, depth, n, out, written);
-        if 4096 < at {
-            return Spelt::Over;
-        }
-        return Spelt::Done {
-            written: at,
-            rows: rows + 1,
-        };
+        return fit(at, rows);
     }
     let j = k - 1;
     let b = path[j];
@@ -203,23 +165,4 @@ fn choose(
             more - 1,
         ),
     }
-}
-
-// What is seen in a column: all constructors of its type; or the step of the path that is left to take.
-pub fn collect_ctors(nodes: &[u16], left: &[u16], counts: &[u8], ps: &[u16], n: usize) -> Ctors
-    requires { ⌜ Few (now counts) (map (headAt (now nodes) (now left) n) (now ps)) ⌝ }
-    ensures { λ r. ⌜ r ≡ ctorsOf (now (counts .entry)) (map (headAt (now (nodes .entry)) (now (left .entry)) n) (now (ps .entry))) (seenOf (now (counts .entry)) (map (headAt (now (nodes .entry)) (now (left .entry)) n) (now (ps .entry)))) ⌝ }
-{
-    let h = first(nodes, left, counts, ps, n);
-    if h == 0 {
-        return Ctors::Open { node: 0, set: 0 };
-    }
-    let b = base(h);
-    let k = count(counts, b);
-    let flags = seen(nodes, left, ps, n, b);
-    if all(flags, k) {
-        return Ctors::Complete { first: b, count: k };
-    }
-    let g = unseen(flags, k);
-    Ctors::Open { node: b, set: g }
 }

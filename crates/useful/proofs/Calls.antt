@@ -1,25 +1,28 @@
 -- The walks' calls of one another, over plain lists: what each call asks, that the measure falls, and what each answer gives.
 use mathlib.Core.Path.{_≡_, refl, sym, ap, ap₂, subst, subst₂, _∙_}
 use mathlib.Core.Bool.{Bool, true, false}
-use mathlib.Core.List.{List, _∷_, _++_, map, append-assoc}
+use mathlib.Core.List.{List, _∷_, _++_, map}
 use Prim.Native.Nat.{ℕ, suc, _+_, _*_, _-_, _≤_, _<_}
 use native.Mathlib.Nat.{add-zero, mul-le-mul, mul-one, one-mul}
 use native.Mathlib.Omega.{arith}
 use lib.ListN.{length, getD, take, drop, replicate, length-drop}
-use lib.Seq.{length-take-le, take-at, drop-at}
 use Rattle.scope.specs.Walks.{Walk}
-use Rattle.matrix.specs.Numbers.{Rows, arOf, rowsBy, headOf, mem, countOf, Seen, seenOf, matrix}
+use Rattle.matrix.specs.Numbers.{Rows, arOf, rowsBy, headOf, mem, Seen, seenOf, matrix}
 use Rattle.walks.specs.Walks.{anyFrom, usefulBy, usefulAlt, usefulSeen, usefulOf, size}
 use Rattle.matrix.specs.Places.{headAt, steps, Places, Patterned, Written, Listed}
-use Rattle.useful.specs.Ready.{limited, newRow, fullOf, Ready, Work, Walked}
-use Rattle.useful.specs.declared.Verdict.{Verdict}
-use Rattle.useful.specs.declared.Verdict.the-variants.{Done, Over}
+use Rattle.useful.specs.Ready.{limited, newRow, Ready, Work, Walked}
+use Rattle.outcomes.specs.declared.Verdict.{Verdict}
+use Rattle.ctors.specs.declared.Ctors.{Ctors}
+use Rattle.ctors.specs.declared.Ctors.the-variants.{Complete, Open}
+use Rattle.ctors.specs.Sets.{ctorsOf}
+use Rattle.ctors.proofs.Found.{complete-is, open-is}
+use Rattle.outcomes.specs.declared.Verdict.the-variants.{Done, Over}
 use Rattle.matrix.proofs.Arities.{arity-0}
-use Rattle.matrix.proofs.Steps.{written-length}
-use Rattle.matrix.proofs.Specialised.{heads, rows-by, places-by, steps-length}
+use Rattle.matrix.proofs.Specialised.{heads}
+use Rattle.matrix.proofs.Behind.{Behind, behind}
 use Rattle.walks.proofs.Measure.{size-default, size-alt, size-own, size-wild}
 use Rattle.useful.proofs.Limits.{done-is}
-use Rattle.useful.proofs.Turns.{row-real, row-add, patterned-some, patterned-next, any-none, any-over, any-yes, any-no, full-0, full-b}
+use Rattle.useful.proofs.Turns.{row-real, row-add, patterned-some, patterned-next, any-none, any-over, any-yes, any-no}
 use Rattle.matrix.proofs.Fronts.{part}
 
 -- a product that is at least each of its factors
@@ -55,40 +58,21 @@ module _ (bytes nodes left counts ars : List ℕ) where
 
   -- `into`: the specialised matrix stands after the rows
   module _ (low : (h : ℕ) → arOf ars h ≤ 255) (row : List ℕ) (w n key : ℕ) (s : List ℕ) (rows room : ℕ) (r : Work nodes left counts ars row w (n - 1 + arOf ars key) n s rows room) (k : ℕ) (e : List ℕ) (wr : Written s rows (steps bytes nodes left n key (take rows s)) k e) (a : ℕ) (ae : a ≡ arOf ars key) where
-    l : List ℕ
-    l = steps bytes nodes left n key (take rows s)
-
-    rows-fit : rows ≤ length s
-    rows-fit = omega (arith, r .space)
-
-    k-low : k ≤ rows
-    k-low = omega (arith, wr .many, steps-length nodes left counts ars bytes n key (take rows s), length-take-le rows s rows-fit)
-
-    rest : drop rows e ≡ l ++ drop (rows + k) s
-    unfolding l
-    rest = ap (drop rows) (wr .text ∙ append-assoc (take rows s) l (drop (rows + k) s)) ∙ drop-at (take rows s) (l ++ drop (rows + k) s) rows (length-take-le rows s rows-fit)
+    stands : Behind bytes nodes left counts ars n key s rows k e a
+    stands = behind bytes nodes left counts ars (r .sizes .low) n key (r .some) s rows (r .places) (omega (arith, r .space, r .low)) k e wr a ae
 
     pub into-length : length e ≡ length s
-    into-length = written-length s rows (omega (arith, r .space)) (steps bytes nodes left n key (take rows s)) k e wr k-low
-
-    front : take k (take (length e - rows) (drop rows e)) ≡ l
-    unfolding l
-    front = ap (take k) (part e rows ∙ rest) ∙ take-at l (drop (rows + k) s) k (sym (wr .many))
-
-    into-matrix : matrix nodes left (n - 1 + a) (take k (take (length e - rows) (drop rows e))) ≡ rowsBy bytes key (arOf ars key) (matrix nodes left n (take rows s))
-    unfolding l
-    into-matrix = ap₂ (λ (x : ℕ) (y : List ℕ). matrix nodes left (n - 1 + x) y) ae front ∙ rows-by nodes left counts ars bytes (r .sizes .low) n key (r .some) (r .places)
+    into-length = stands .same
 
     pub into-ready : Ready nodes left counts ars row w (n - 1 + a) (take (length e - rows) (drop rows e)) k room
-    unfolding l
     into-ready =
         record {
           sizes = r .sizes;
-          places = subst₂ (λ (x : ℕ) (y : List ℕ). Places nodes left counts ars (n - 1 + x) y) (sym ae) (sym front) (places-by nodes left counts ars bytes (r .sizes .low) n key (r .some) (r .places));
+          places = stands .places;
           pats = subst (λ (x : ℕ). Patterned ars row (n - 1 + x - w)) (sym ae) (r .pats);
           inside = omega (arith, r .inside);
-          low = omega (arith, k-low, r .low);
-          space = omega (arith, ap length (part e rows), length-drop rows e, into-length, k-low, r .space);
+          low = omega (arith, stands .few, r .low);
+          space = omega (arith, ap length (part e rows), length-drop rows e, stands .same, stands .few, r .space);
           cap = r .cap;
           wide = omega (arith, r .wide, low key);
         }
@@ -98,18 +82,13 @@ module _ (bytes nodes left counts ars : List ℕ) where
     unfolding height
     into-falls t q =
         let z : size (n - 1 + a) (newRow w row ∷ matrix nodes left (n - 1 + a) (take k (take (length e - rows) (drop rows e)))) ≡ size (n - 1 + arOf ars key) (newRow w row ∷ rowsBy bytes key (arOf ars key) (matrix nodes left n (take rows s)))
-        = ap₂ (λ (x : ℕ) (y : Rows). size (n - 1 + x) (newRow w row ∷ y)) ae into-matrix in
+        = ap₂ (λ (x : ℕ) (y : Rows). size (n - 1 + x) (newRow w row ∷ y)) ae (stands .is) in
         omega arith
 
     pub into-walked : (calls : ℕ) (e₂ : List ℕ) (v : Verdict)
         → Walked (take (length e - rows) (drop rows e)) k e₂ v calls room (usefulOf bytes counts ars (n - 1 + a) (matrix nodes left (n - 1 + a) (take k (take (length e - rows) (drop rows e)))) (newRow w row))
         → Walked s rows (take rows e ++ (e₂ ++ drop (length e - rows) (drop rows e))) v calls room (usefulBy bytes counts ars (usefulOf bytes counts ars) (n - 1) (matrix nodes left n (take rows s)) (newRow w row) key)
-    unfolding l
-    into-walked calls e₂ v h = record {
-      kept = take-at (take rows e) (e₂ ++ drop (length e - rows) (drop rows e)) rows (length-take-le rows e (omega (arith, into-length, r .space)))
-          ∙ ap (take rows) (wr .text ∙ append-assoc (take rows s) l (drop (rows + k) s)) ∙ take-at (take rows s) (l ++ drop (rows + k) s) rows (length-take-le rows s rows-fit);
-      is = h .is ∙ ap₂ (λ (x : ℕ) (y : Rows). limited calls room (usefulOf bytes counts ars (n - 1 + x) y (newRow w row))) ae into-matrix;
-    }
+    into-walked calls e₂ v h = record { kept = stands .kept e₂; is = h .is ∙ ap₂ (λ (x : ℕ) (y : Rows). limited calls room (usefulOf bytes counts ars (n - 1 + x) y (newRow w row))) ae (stands .is) }
 
   -- `try_each`
   module _ (low : (h : ℕ) → arOf ars h ≤ 255) (row : List ℕ) (w n key more : ℕ) (s : List ℕ) (rows room : ℕ) (r : Work nodes left counts ars row w (n - 1) n s rows room) where
@@ -197,25 +176,24 @@ module _ (bytes nodes left counts ars : List ℕ) where
     hd : map headOf (matrix nodes left n (take rows s)) ≡ map (headAt nodes left n) (take rows s)
     hd = heads nodes left counts ars n (r .places)
 
-    module _ (calls b : ℕ) (be : b ≡ fullOf (seenOf counts (map (headAt nodes left n) (take rows s)))) (e : List ℕ) (v : Verdict) where
-      pub wild-into : b ≡ 0
+    module _ (calls : ℕ) (x : Ctors) (xe : x ≡ ctorsOf counts (map (headAt nodes left n) (take rows s)) (seenOf counts (map (headAt nodes left n) (take rows s)))) (e : List ℕ) (v : Verdict) where
+      found : x ≡ ctorsOf counts (map headOf (matrix nodes left n (take rows s))) (seenOf counts (map headOf (matrix nodes left n (take rows s))))
+      found = xe ∙ ap (λ (hs : List ℕ). ctorsOf counts hs (seenOf counts hs)) (sym hd)
+
+      pub wild-into : (b g : ℕ) → x ≡ Open b g
           → Walked s rows e v calls room (usefulBy bytes counts ars (usefulOf bytes counts ars) (n - 1) (matrix nodes left n (take rows s)) (newRow w row) 0)
           → Walked s rows e v calls room (usefulSeen bytes counts ars (usefulOf bytes counts ars) (seenOf counts (map headOf (matrix nodes left n (take rows s)))) (n - 1) (matrix nodes left n (take rows s)) (newRow w row))
-      wild-into z h = record {
-        kept = h .kept;
-        is = h .is ∙ ap (limited calls room) (sym (full-0 counts (map headOf (matrix nodes left n (take rows s))) (λ x. usefulSeen bytes counts ars (usefulOf bytes counts ars) x (n - 1) (matrix nodes left n (take rows s)) (newRow w row)) _ refl (λ x. refl)
-            (ap (λ (x : List ℕ). fullOf (seenOf counts x)) hd ∙ sym be ∙ z)));
-      }
+      wild-into b g q h = open-is counts (map headOf (matrix nodes left n (take rows s))) x b g q
+          (λ y. Walked s rows e v calls room (usefulSeen bytes counts ars (usefulOf bytes counts ars) y (n - 1) (matrix nodes left n (take rows s)) (newRow w row)))
+          h (λ c. h) (seenOf counts (map headOf (matrix nodes left n (take rows s)))) found
 
-      pub wild-each : (b ≡ 0 → ⊥) → (k : ℕ) → k ≡ countOf counts b
+      pub wild-each : (b k : ℕ) → x ≡ Complete b k
           → Walked s rows e v calls room (anyFrom (usefulAlt bytes counts ars (usefulOf bytes counts ars) (n - 1) (matrix nodes left n (take rows s)) (newRow w row)) b k)
           → Walked s rows e v calls room (usefulSeen bytes counts ars (usefulOf bytes counts ars) (seenOf counts (map headOf (matrix nodes left n (take rows s)))) (n - 1) (matrix nodes left n (take rows s)) (newRow w row))
-      wild-each z k ke h = record {
-        kept = h .kept;
-        is = h .is ∙ ap (λ (x : ℕ). limited calls room (anyFrom (usefulAlt bytes counts ars (usefulOf bytes counts ars) (n - 1) (matrix nodes left n (take rows s)) (newRow w row)) b x)) ke
-            ∙ ap (λ (x : Seen). limited calls room (usefulSeen bytes counts ars (usefulOf bytes counts ars) x (n - 1) (matrix nodes left n (take rows s)) (newRow w row)))
-            (sym (ap (seenOf counts) hd ∙ full-b counts (map (headAt nodes left n) (take rows s)) b be z));
-      }
+      wild-each b k q h =
+          let f = complete-is counts (map headOf (matrix nodes left n (take rows s))) x b k q (seenOf counts (map headOf (matrix nodes left n (take rows s)))) found in
+          subst (λ (y : Seen). Walked s rows e v calls room (usefulSeen bytes counts ars (usefulOf bytes counts ars) y (n - 1) (matrix nodes left n (take rows s)) (newRow w row))) (sym (f .0))
+          (subst (λ (j : ℕ). Walked s rows e v calls room (anyFrom (usefulAlt bytes counts ars (usefulOf bytes counts ars) (n - 1) (matrix nodes left n (take rows s)) (newRow w row)) b j)) (f .1) h)
 
   -- `is_useful`
   module _ (row : List ℕ) (w n : ℕ) (s : List ℕ) (rows room : ℕ) (r : Ready nodes left counts ars row w n s rows room) (pos : 0 < n) where

@@ -1,6 +1,6 @@
--- One step into the definition, the constructors one after another, and what a column shows: over plain lists.
+-- One step into the definition, and the constructors one after another: over plain lists.
 use mathlib.Core.Path.{_≡_, refl, sym, ap, ap₂, subst, _∙_}
-use mathlib.Core.Bool.{Bool, true, false, cond}
+use mathlib.Core.Bool.{Bool, true, false}
 use mathlib.Core.List.{List, [], _∷_, _++_, map, append-assoc}
 use Prim.Native.Nat.{ℕ, zero, suc, _+_, _-_, _≤_, _<_}
 use native.Mathlib.Omega.{arith}
@@ -8,14 +8,12 @@ use native.Mathlib.Numerals.{add-one}
 use lib.ListN.{length, getD, drop, replicate, replicate-append-replicate}
 use lib.Seq.{drop-cons}
 use Rattle.scope.specs.Walks.{Walk, plain}
-use Rattle.matrix.specs.Numbers.{Rows, arOf, headOf, firstOf, mem, allIn, countOf, baseOf, Seen, bare, part, full, seenOf}
+use Rattle.matrix.specs.Numbers.{Rows, arOf, headOf, seenOf}
 use Rattle.walks.specs.Walks.{anyFrom, usefulBy, usefulSeen, usefulHead, usefulBody}
-use Rattle.matrix.specs.Places.{Patterned, enough, more, upTo}
-use Rattle.useful.specs.Ready.{limited, newRow, fullOf}
-use Rattle.useful.specs.declared.Verdict.the-variants.{Done, Over}
-use Rattle.matrix.proofs.Columns.{flags-all}
+use Rattle.matrix.specs.Places.{Patterned, enough, more}
+use Rattle.useful.specs.Ready.{limited, newRow}
+use Rattle.outcomes.specs.declared.Verdict.the-variants.{Done, Over}
 use Rattle.useful.proofs.Limits.{done-none, else-over, else-yes, else-no}
-use Rattle.matrix.proofs.Seen.{first-in, ctor-range, seen-cases}
 
 -- the new row
 pub row-suc : (w : ℕ) (row : List ℕ) → 0 < w → newRow w row ≡ 0 ∷ newRow (w - 1) row
@@ -101,28 +99,3 @@ module _ (g : ℕ → Walk Bool) (key calls room : ℕ) where
     where
       less : suc j - 1 ≡ j
       less = omega arith
-
--- what is full, by what is seen
-module _ (cs hs : List ℕ) where
-  -- what `complete` finds is what is seen
-  pub full-none : firstOf hs ≡ 0 → 0 ≡ fullOf (seenOf cs hs)
-  full-none e = seen-cases cs hs (λ x. 0 ≡ fullOf x) (λ z. refl) (λ z a. refl) (λ z a. absurd (z e))
-
-  pub full-is : (h : ℕ) (flags : List Bool) (b k : ℕ) (t : Bool) → h ≡ firstOf hs → (h ≡ 0 → ⊥) → b ≡ baseOf h → k ≡ countOf cs b → k ≤ 32
-      → ((j : ℕ) → j < 32 → getD flags j false ≡ mem (b + j) hs) → t ≡ upTo flags k → cond t b 0 ≡ fullOf (seenOf cs hs)
-  full-is h flags b k t e nz be ke le ok te =
-      let s : t ≡ allIn b k hs = te ∙ flags-all hs b flags ok k le in
-      let bf : b ≡ baseOf (firstOf hs) = be ∙ ap baseOf e in
-      let s′ : t ≡ allIn (baseOf (firstOf hs)) (countOf cs (baseOf (firstOf hs))) hs = s ∙ ap (λ (j : ℕ). allIn b j hs) ke ∙ ap (λ (x : ℕ). allIn x (countOf cs x) hs) bf in
-      seen-cases cs hs (λ x. cond t b 0 ≡ fullOf x)
-      (λ z. absurd (nz (e ∙ z)))
-      (λ z a. ap (λ (y : Bool). cond y b 0) (s′ ∙ a))
-      (λ z a. ap (λ (y : Bool). cond y b 0) (s′ ∙ a) ∙ bf)
-
-  -- what is full is what `complete` finds, or nothing is
-  pub full-0 : (o : Seen → Walk Bool) (w : Walk Bool) → o bare ≡ w → ((b : ℕ) → o (part b) ≡ w) → fullOf (seenOf cs hs) ≡ 0 → o (seenOf cs hs) ≡ w
-  full-0 o w f g e = seen-cases cs hs (λ x. fullOf x ≡ 0 → o x ≡ w) (λ z q. f) (λ z a q. g (baseOf (firstOf hs)))
-      (λ z a q. absurd (omega (arith, ctor-range (firstOf hs) (first-in hs z .ctor)))) e
-
-  pub full-b : (b : ℕ) → b ≡ fullOf (seenOf cs hs) → (b ≡ 0 → ⊥) → seenOf cs hs ≡ full b
-  full-b b e nz = seen-cases cs hs (λ x. b ≡ fullOf x → x ≡ full b) (λ z q. absurd (nz q)) (λ z a q. absurd (nz q)) (λ z a q. ap full (sym q)) e

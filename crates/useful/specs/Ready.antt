@@ -5,22 +5,16 @@ use mathlib.Core.List.{List, _++_, map}
 use Prim.Native.Nat.{ℕ, _+_, _*_, _-_, _≤_, _<_}
 use lib.ListN.{length, take, replicate}
 use Rattle.scope.specs.Walks.{Walk}
-use Rattle.useful.specs.declared.Verdict.{Verdict}
-use Rattle.matrix.specs.Numbers.{headOf, Seen, bare, part, full, seenOf, matrix}
+use Rattle.outcomes.specs.declared.Verdict.{Verdict}
+use Rattle.matrix.specs.Numbers.{headOf, seenOf, matrix}
 use Rattle.walks.specs.Walks.{anyFrom, usefulBy, usefulAlt, usefulSeen, usefulOf}
 use Rattle.matrix.specs.Places.{Places, Patterned, Sizes}
-use Rattle.useful.specs.declared.Verdict.the-variants.{Done, Over}
+use Rattle.outcomes.specs.declared.Verdict.the-variants.{Done, Over}
 use Rattle.walks.specs.Limits.{within}
 
 -- the new row: w invented wildcards, then a part of the table
 abbrev pub newRow : ℕ → List ℕ → List ℕ
 newRow w row = replicate w 0 ++ row
-
--- the first constructor of the type of which all are seen, else 0
-abbrev pub fullOf : Seen → ℕ
-fullOf bare = 0
-fullOf (part b) = 0
-fullOf (full b) = b
 
 -- A matrix of rows of n patterns at the front of the scratch s, and the new row. Of 16,384 cells of scratch an open call takes at most 64, and its cells, rows + 1 at least, leave the room: so the scratch never ends before the room does
 pub record Ready (nodes left counts arities row : List ℕ) (w n : ℕ) (s : List ℕ) (rows room : ℕ) : Type 0 where

@@ -16,7 +16,7 @@ use Rattle.matrix.specs.Places.{headAt, Listed}
 use Rattle.matrix.proofs.Specialised.{steady, few-places}
 use Rattle.matrix.proofs.Seen.{listed-next}
 use Rattle.collect.proofs.Walk.{trail-next, trail-kept, trail-spelling}
-use Rattle.collect.proofs.Calls.{leaf-spread, into-length, into-falls, into-opened, into-sought, aside-held, aside-falls, aside-sought, short-falls, held-kept, each-into-falls, each-falls, each-none, each-over, each-fit, each-path, each-then, is-cells, is-calls, is-leaf-over, is-leaf, is-zero, seen-held, seen-trail, full-listed, full-range, is-full, open-node, open-falls, is-open}
+use Rattle.collect.proofs.Calls.{leaf-spread, into-length, into-falls, into-opened, into-sought, aside-held, aside-falls, aside-sought, short-falls, held-kept, each-into-falls, each-falls, each-none, each-over, each-fit, each-path, each-then, is-past, is-leaf, is-zero, seen-held, seen-trail, is-full, open-node, open-falls, is-open}
 use Prim.Native.Nat.{ℕ, _+_, _*_, _-_, _/_, _≤_, _<_}
 use borrow.Fn.Kinds.{In}
 use borrow.Fn.PlainCycle.{Measures, is, falls, and}
@@ -32,8 +32,12 @@ use Rattle.collect.proofs.+aside+collect_missing_patterns+each+into.Lts
 use Rattle.collect.proofs.into.Reads as into
 use Rattle.collect.proofs.into.Kinds as into-kinds
 use Rattle.collect.proofs.+aside+collect_missing_patterns+each+into.Lts-into as into-lts
-use Rattle.paths.proofs.collect_ctors.Reads as collect-ctors-reads
+use Rattle.ctors.proofs.collect_ctors.Reads as collect-ctors-reads
 use Rattle.paths.proofs.put_rows.Reads as put-rows-reads
+use Rattle.outcomes.proofs.over.Reads as over-reads
+use Rattle.outcomes.proofs.counted.Reads as counted-reads
+use Rattle.outcomes.proofs.Tests.{entered}
+use Rattle.ctors.proofs.Found.{complete-seen}
 use Rattle.matrix.proofs.arity.Reads as arity-reads
 use Rattle.matrix.proofs.copy.Reads as copy-reads
 use Rattle.matrix.proofs.specialize.Reads as specialize-reads
@@ -91,7 +95,7 @@ abbrev aside-claims : ℕ → aside-lts.Claims
 aside-claims t = (copy-reads.Asked, copy-reads.Learnt, into-below t, into.Post)
 
 abbrev collect-missing-patterns-claims : ℕ → collect-missing-patterns-lts.Claims
-collect-missing-patterns-claims t = (put-rows-reads.Asked, put-rows-reads.Learnt, collect-ctors-reads.Asked, collect-ctors-reads.Learnt, each-below t, each.Post, into-below t, into.Post)
+collect-missing-patterns-claims t = (over-reads.Asked, over-reads.Learnt, put-rows-reads.Asked, put-rows-reads.Learnt, counted-reads.Asked, counted-reads.Learnt, collect-ctors-reads.Asked, collect-ctors-reads.Learnt, each-below t, each.Post, into-below t, into.Post)
 
 abbrev each-claims : ℕ → each-lts.Claims
 each-claims t = (into-below t, into.Post, each-below t, each.Post)
@@ -143,42 +147,32 @@ collect-missing-patterns-mul-cells t c =
     let h = c .before .before .before .before .before .before .before .before .before .pre .1 in
     record { fits = lt-of-le-of-lt (mul-le-mul {n₁ = a .rows} {m₁ = a .n} {n₂ = 64} {m₂ = 16640} (omega (arith, h .0 .low)) (omega (arith, h .0 .wide))) (lit< tt) }
 
+collect-missing-patterns-over-requires : (t : ℕ) → collect-missing-patterns-lts.Need-over-requires (collect-missing-patterns-claims t) (collect-missing-patterns-at t) collect-missing-patterns.Post
+collect-missing-patterns-over-requires t c κs =
+    tt
+
 collect-missing-patterns-returns : (t : ℕ) → collect-missing-patterns-lts.Need-returns (collect-missing-patterns-claims t) (collect-missing-patterns-at t) collect-missing-patterns.Post
 collect-missing-patterns-returns t c =
-    let a = c .before .before .before .before .before .before .before .before .before .before .args in
-    let h = c .before .before .before .before .before .before .before .before .before .before .pre .1 in
-    let low : (h : ℕ) → arOf (a .arities .now) h ≤ 255 = arity-byte (a .arities .now) (λ i. omega (arith, c .before .before .before .before .before .shared-slice-known5 .given i)) in
-    is-cells (a .bytes .now) (a .nodes .now) (a .left .now) (a .counts .now) (a .arities .now) low (a .n) (a .s .now) (a .rows) (a .room) (h .0) (a .path .now) (a .alts .now) (a .depth) (a .written) (a .found) (h .1 .0) (a .out .now) (a .calls) (c .if1 .taken)
-
-collect-missing-patterns-returns-2 : (t : ℕ) → collect-missing-patterns-lts.Need-returns-2 (collect-missing-patterns-claims t) (collect-missing-patterns-at t) collect-missing-patterns.Post
-collect-missing-patterns-returns-2 t c =
     let a = c .before .before .before .before .before .before .before .before .before .before .before .args in
     let h = c .before .before .before .before .before .before .before .before .before .before .before .pre .1 in
     let low : (h : ℕ) → arOf (a .arities .now) h ≤ 255 = arity-byte (a .arities .now) (λ i. omega (arith, c .before .before .before .before .before .before .shared-slice-known5 .given i)) in
-    is-calls (a .bytes .now) (a .nodes .now) (a .left .now) (a .counts .now) (a .arities .now) low (a .n) (a .s .now) (a .rows) (a .room) (h .0) (a .path .now) (a .alts .now) (a .depth) (a .written) (a .found) (h .1 .0) (a .out .now) (a .calls) (c .if2 .taken)
+    is-past (a .bytes .now) (a .nodes .now) (a .left .now) (a .counts .now) (a .arities .now) low (a .n) (a .s .now) (a .rows) (a .room) (h .0) (a .path .now) (a .alts .now) (a .depth) (a .written) (a .found) (h .1 .0) (a .out .now) (a .calls) (c .before .over .result) (c .before .over .ensures) (c .if1 .taken)
 
-collect-missing-patterns-put-rows-requires :
-    (t : ℕ) → collect-missing-patterns-lts.Need-put-rows-requires (collect-missing-patterns-claims t) (collect-missing-patterns-at t) collect-missing-patterns.Post
+collect-missing-patterns-put-rows-requires : (t : ℕ) → collect-missing-patterns-lts.Need-put-rows-requires (collect-missing-patterns-claims t) (collect-missing-patterns-at t) collect-missing-patterns.Post
 collect-missing-patterns-put-rows-requires t c κs =
     let a = c .before .before .before .before .before .before .before .before .before .before .before .before .before .before .before .args in
     let h = c .before .before .before .before .before .before .before .before .before .before .before .before .before .before .before .pre .1 in
     trail-spelling (a .path .now) (a .alts .now) (a .depth) (a .room) (a .written) (a .found) (h .1 .0) (a .n) (h .0 .wide) (h .1 .1)
 
-collect-missing-patterns-add-c : (t : ℕ) → collect-missing-patterns-lts.Need-add-c (collect-missing-patterns-claims t) (collect-missing-patterns-at t) collect-missing-patterns.Post
-collect-missing-patterns-add-c t c =
-    omega (arith, c .before .before .before .before .before .before .before .before .before .if2 .left)
-
-collect-missing-patterns-enum-told : (t : ℕ) → collect-missing-patterns-lts.Need-enum-told (collect-missing-patterns-claims t) (collect-missing-patterns-at t) collect-missing-patterns.Post
-collect-missing-patterns-enum-told t c =
-    search needs
-
-collect-missing-patterns-enum-known-r : (t : ℕ) → collect-missing-patterns-lts.Need-enum-known-r (collect-missing-patterns-claims t) (collect-missing-patterns-at t) collect-missing-patterns.Post
-collect-missing-patterns-enum-known-r t c =
-    search needs
+collect-missing-patterns-counted-requires : (t : ℕ) → collect-missing-patterns-lts.Need-counted-requires (collect-missing-patterns-claims t) (collect-missing-patterns-at t) collect-missing-patterns.Post
+collect-missing-patterns-counted-requires t c κs =
+    let a = c .before .before .before .before .before .before .before .before .before .before .before .before .before .before .before .before .before .before .before .before .args in
+    let g = entered (a .calls) (a .rows * a .n) (a .room) (c .before .before .before .before .before .before .before .before .before .before .over .result) (c .before .before .before .before .before .before .before .before .before .before .over .ensures) (c .before .before .before .before .before .before .before .before .before .if1 .left) in
+    g .few
 
 collect-missing-patterns-same-length : (t : ℕ) → collect-missing-patterns-lts.Need-same-length (collect-missing-patterns-claims t) (collect-missing-patterns-at t) collect-missing-patterns.Post
 collect-missing-patterns-same-length t c =
-    c .before .before .before .before .before .before .put-rows .kept .1 .0
+    c .before .before .before .before .before .put-rows .kept .1 .0
 
 collect-missing-patterns-same-length-2 : (t : ℕ) → collect-missing-patterns-lts.Need-same-length-2 (collect-missing-patterns-claims t) (collect-missing-patterns-at t) collect-missing-patterns.Post
 collect-missing-patterns-same-length-2 t c =
@@ -186,89 +180,78 @@ collect-missing-patterns-same-length-2 t c =
 
 collect-missing-patterns-same-length-3 : (t : ℕ) → collect-missing-patterns-lts.Need-same-length-3 (collect-missing-patterns-claims t) (collect-missing-patterns-at t) collect-missing-patterns.Post
 collect-missing-patterns-same-length-3 t c =
-    c .before .before .before .before .before .before .put-rows .kept .1 .1 .1 .1 .1 .1 .0
+    c .before .before .before .before .before .put-rows .kept .1 .1 .1 .1 .1 .1 .0
+
+collect-missing-patterns-returns-2 : (t : ℕ) → collect-missing-patterns-lts.Need-returns-2 (collect-missing-patterns-claims t) (collect-missing-patterns-at t) collect-missing-patterns.Post
+collect-missing-patterns-returns-2 t c =
+    let a = c .before .before .before .before .before .before .before .before .before .before .before .before .before .before .before .before .before .before .before .before .before .args in
+    let h = c .before .before .before .before .before .before .before .before .before .before .before .before .before .before .before .before .before .before .before .before .before .pre .1 in
+    let low : (h : ℕ) → arOf (a .arities .now) h ≤ 255 = arity-byte (a .arities .now) (λ i. omega (arith, c .before .before .before .before .before .before .before .before .before .before .before .before .before .before .before .before .shared-slice-known5 .given i)) in
+    let g = entered (a .calls) (a .rows * a .n) (a .room) (c .before .before .before .before .before .before .before .before .before .before .before .over .result) (c .before .before .before .before .before .before .before .before .before .before .before .over .ensures) (c .before .before .before .before .before .before .before .before .before .before .if1 .left) in
+    is-leaf (a .bytes .now) (a .nodes .now) (a .left .now) (a .counts .now) (a .arities .now) low (a .n) (a .s .now) (a .rows) (a .room) (h .0) (a .path .now) (a .alts .now) (a .depth) (a .written) (a .found) (h .1 .0) (a .out .now) (a .calls) (g .fits) (g .few) (c .before .before .before .before .before .before .before .before .before .if2 .taken) (c .before .before .before .before .before .put-rows .result) (c .before .before .before .before .before .put-rows .last .1 .1 .1 .1 .1 .1 .0) (leaf-spread (a .arities .now) (a .path .now) (a .alts .now) (a .depth) (a .n) (a .out .now) (a .written) (a .found) (c .before .before .before .before .before .put-rows .result) (c .before .before .before .before .before .put-rows .last .1 .1 .1 .1 .1 .1 .0) (c .before .before .before .before .before .put-rows .ensures .0)) (c .before .before .before .before .before .put-rows .last .1 .0) (c .before .before .before .before .before .put-rows .ensures .1) (c .counted .result) (c .counted .ensures)
+
+collect-missing-patterns-counted-requires-2 : (t : ℕ) → collect-missing-patterns-lts.Need-counted-requires-2 (collect-missing-patterns-claims t) (collect-missing-patterns-at t) collect-missing-patterns.Post
+collect-missing-patterns-counted-requires-2 t c κs =
+    let a = c .before .before .before .before .before .before .before .before .before .before .before .before .before .args in
+    let g = entered (a .calls) (a .rows * a .n) (a .room) (c .before .before .before .over .result) (c .before .before .before .over .ensures) (c .before .before .if1 .left) in
+    g .few
 
 collect-missing-patterns-returns-3 : (t : ℕ) → collect-missing-patterns-lts.Need-returns-3 (collect-missing-patterns-claims t) (collect-missing-patterns-at t) collect-missing-patterns.Post
 collect-missing-patterns-returns-3 t c =
-    let a = c .before .before .before .before .before .before .before .before .before .before .before .before .before .before .before .before .before .before .before .before .before .before .args in
-    let h = c .before .before .before .before .before .before .before .before .before .before .before .before .before .before .before .before .before .before .before .before .before .before .pre .1 in
-    let low : (h : ℕ) → arOf (a .arities .now) h ≤ 255 = arity-byte (a .arities .now) (λ i. omega (arith, c .before .before .before .before .before .before .before .before .before .before .before .before .before .before .before .before .before .shared-slice-known5 .given i)) in
-    is-leaf-over (a .bytes .now) (a .nodes .now) (a .left .now) (a .counts .now) (a .arities .now) low (a .n) (a .s .now) (a .rows) (a .room) (h .0) (a .path .now) (a .alts .now) (a .depth) (a .written) (a .found) (h .1 .0) (a .out .now) (a .calls) (c .before .before .before .before .before .before .before .before .before .before .before .before .if1 .left) (c .before .before .before .before .before .before .before .before .before .before .before .if2 .left) (c .before .before .before .before .before .before .before .before .before .before .if3 .taken) (c .before .before .before .before .before .before .put-rows .result) (c .before .before .before .before .before .before .put-rows .last .1 .1 .1 .1 .1 .1 .0) (leaf-spread (a .arities .now) (a .path .now) (a .alts .now) (a .depth) (a .n) (a .out .now) (a .written) (a .found) (c .before .before .before .before .before .before .put-rows .result) (c .before .before .before .before .before .before .put-rows .last .1 .1 .1 .1 .1 .1 .0) (c .before .before .before .before .before .before .put-rows .ensures .0)) (c .before .before .before .before .before .before .put-rows .last .1 .0) (c .before .before .before .before .before .before .put-rows .ensures .1) (c .enum-told .given .1)
+    let a = c .before .before .before .before .before .before .before .before .before .before .before .before .before .before .args in
+    let h = c .before .before .before .before .before .before .before .before .before .before .before .before .before .before .pre .1 in
+    let low : (h : ℕ) → arOf (a .arities .now) h ≤ 255 = arity-byte (a .arities .now) (λ i. omega (arith, c .before .before .before .before .before .before .before .before .before .shared-slice-known5 .given i)) in
+    let g = entered (a .calls) (a .rows * a .n) (a .room) (c .before .before .before .before .over .result) (c .before .before .before .before .over .ensures) (c .before .before .before .if1 .left) in
+    is-zero (a .bytes .now) (a .nodes .now) (a .left .now) (a .counts .now) (a .arities .now) low (a .n) (a .s .now) (a .rows) (a .room) (h .0) (a .path .now) (a .alts .now) (a .depth) (a .written) (a .found) (h .1 .0) (a .out .now) (a .calls) (g .fits) (g .few) (omega (arith, c .before .before .if2 .left)) (c .before .if3 .taken) (c .counted2 .result) (c .counted2 .ensures)
 
-collect-missing-patterns-same-length-4 : (t : ℕ) → collect-missing-patterns-lts.Need-same-length-4 (collect-missing-patterns-claims t) (collect-missing-patterns-at t) collect-missing-patterns.Post
-collect-missing-patterns-same-length-4 t c =
-    c .before .before .before .before .before .before .before .put-rows .kept .1 .0
-
-collect-missing-patterns-same-length-5 : (t : ℕ) → collect-missing-patterns-lts.Need-same-length-5 (collect-missing-patterns-claims t) (collect-missing-patterns-at t) collect-missing-patterns.Post
-collect-missing-patterns-same-length-5 t c =
-    refl
-
-collect-missing-patterns-same-length-6 : (t : ℕ) → collect-missing-patterns-lts.Need-same-length-6 (collect-missing-patterns-claims t) (collect-missing-patterns-at t) collect-missing-patterns.Post
-collect-missing-patterns-same-length-6 t c =
-    c .before .before .before .before .before .before .before .put-rows .kept .1 .1 .1 .1 .1 .1 .0
-
-collect-missing-patterns-returns-4 : (t : ℕ) → collect-missing-patterns-lts.Need-returns-4 (collect-missing-patterns-claims t) (collect-missing-patterns-at t) collect-missing-patterns.Post
-collect-missing-patterns-returns-4 t c =
-    let a = c .before .before .before .before .before .before .before .before .before .before .before .before .before .before .before .before .before .before .before .before .before .before .before .args in
-    let h = c .before .before .before .before .before .before .before .before .before .before .before .before .before .before .before .before .before .before .before .before .before .before .before .pre .1 in
-    let low : (h : ℕ) → arOf (a .arities .now) h ≤ 255 = arity-byte (a .arities .now) (λ i. omega (arith, c .before .before .before .before .before .before .before .before .before .before .before .before .before .before .before .before .before .before .shared-slice-known5 .given i)) in
-    is-leaf (a .bytes .now) (a .nodes .now) (a .left .now) (a .counts .now) (a .arities .now) low (a .n) (a .s .now) (a .rows) (a .room) (h .0) (a .path .now) (a .alts .now) (a .depth) (a .written) (a .found) (h .1 .0) (a .out .now) (a .calls) (c .before .before .before .before .before .before .before .before .before .before .before .before .before .if1 .left) (c .before .before .before .before .before .before .before .before .before .before .before .before .if2 .left) (c .before .before .before .before .before .before .before .before .before .before .before .if3 .taken) (c .before .before .before .before .before .before .before .put-rows .result) (c .before .before .before .before .before .before .before .put-rows .last .1 .1 .1 .1 .1 .1 .0) (leaf-spread (a .arities .now) (a .path .now) (a .alts .now) (a .depth) (a .n) (a .out .now) (a .written) (a .found) (c .before .before .before .before .before .before .before .put-rows .result) (c .before .before .before .before .before .before .before .put-rows .last .1 .1 .1 .1 .1 .1 .0) (c .before .before .before .before .before .before .before .put-rows .ensures .0)) (c .before .before .before .before .before .before .before .put-rows .last .1 .0) (c .before .before .before .before .before .before .before .put-rows .ensures .1) (c .before .r .given .0 .0) (c .before .r .given .0 .1 .0) (c .before .r .given .1)
-
-collect-missing-patterns-add-t35 : (t : ℕ) → collect-missing-patterns-lts.Need-add-t35 (collect-missing-patterns-claims t) (collect-missing-patterns-at t) collect-missing-patterns.Post
-collect-missing-patterns-add-t35 t c =
-    omega (arith, c .before .before .if2 .left)
-
-collect-missing-patterns-returns-5 : (t : ℕ) → collect-missing-patterns-lts.Need-returns-5 (collect-missing-patterns-claims t) (collect-missing-patterns-at t) collect-missing-patterns.Post
-collect-missing-patterns-returns-5 t c =
-    let a = c .before .before .before .before .before .before .before .before .before .before .before .before .before .args in
-    let h = c .before .before .before .before .before .before .before .before .before .before .before .before .before .pre .1 in
-    let low : (h : ℕ) → arOf (a .arities .now) h ≤ 255 = arity-byte (a .arities .now) (λ i. omega (arith, c .before .before .before .before .before .before .before .before .shared-slice-known5 .given i)) in
-    is-zero (a .bytes .now) (a .nodes .now) (a .left .now) (a .counts .now) (a .arities .now) low (a .n) (a .s .now) (a .rows) (a .room) (h .0) (a .path .now) (a .alts .now) (a .depth) (a .written) (a .found) (h .1 .0) (a .out .now) (a .calls) (c .before .before .before .if1 .left) (c .before .before .if2 .left) (omega (arith, c .before .if3 .left)) (c .if4 .taken)
-
-collect-missing-patterns-slice-reshare-prefix-collect-ctors :
-    (t : ℕ) → collect-missing-patterns-lts.Need-slice-reshare-prefix-collect-ctors (collect-missing-patterns-claims t) (collect-missing-patterns-at t) collect-missing-patterns.Post
+collect-missing-patterns-slice-reshare-prefix-collect-ctors : (t : ℕ) → collect-missing-patterns-lts.Need-slice-reshare-prefix-collect-ctors (collect-missing-patterns-claims t) (collect-missing-patterns-at t) collect-missing-patterns.Post
 collect-missing-patterns-slice-reshare-prefix-collect-ctors t c =
     let h = c .before .before .before .before .before .before .before .before .before .before .before .before .before .pre .1 in
     h .0 .fits
 
-collect-missing-patterns-slice-aggregate-collect-ctors :
-    (t : ℕ) → collect-missing-patterns-lts.Need-slice-aggregate-collect-ctors (collect-missing-patterns-claims t) (collect-missing-patterns-at t) collect-missing-patterns.Post
+collect-missing-patterns-slice-aggregate-collect-ctors : (t : ℕ) → collect-missing-patterns-lts.Need-slice-aggregate-collect-ctors (collect-missing-patterns-claims t) (collect-missing-patterns-at t) collect-missing-patterns.Post
 collect-missing-patterns-slice-aggregate-collect-ctors t c =
     let a = c .before .before .before .before .before .before .before .before .before .before .before .before .before .before .args in
     let h = c .before .before .before .before .before .before .before .before .before .before .before .before .before .before .pre .1 in
     sym (length-take-le (a .rows) (a .s .now) (h .0 .fits))
 
-collect-missing-patterns-collect-ctors-requires :
-    (t : ℕ) → collect-missing-patterns-lts.Need-collect-ctors-requires (collect-missing-patterns-claims t) (collect-missing-patterns-at t) collect-missing-patterns.Post
+collect-missing-patterns-collect-ctors-requires : (t : ℕ) → collect-missing-patterns-lts.Need-collect-ctors-requires (collect-missing-patterns-claims t) (collect-missing-patterns-at t) collect-missing-patterns.Post
 collect-missing-patterns-collect-ctors-requires t c κs =
     let a = c .before .before .before .before .before .before .before .before .before .before .before .before .before .before .args in
     let h = c .before .before .before .before .before .before .before .before .before .before .before .before .before .before .pre .1 in
-    let some : 0 < a .rows = omega (arith, c .before .before .if3 .left) in
-    let pos : 0 < a .n = omega (arith, c .before .if4 .left) in
+    let some : 0 < a .rows = omega (arith, c .before .before .if2 .left) in
+    let pos : 0 < a .n = omega (arith, c .before .if3 .left) in
     few-places (a .nodes .now) (a .left .now) (a .counts .now) (a .arities .now) (a .n) (take (a .rows) (a .s .now)) (h .0 .places) pos
 
-collect-missing-patterns-enum-known-column :
-    (t : ℕ) → collect-missing-patterns-lts.Need-enum-known-column (collect-missing-patterns-claims t) (collect-missing-patterns-at t) collect-missing-patterns.Post
+collect-missing-patterns-enum-known-column : (t : ℕ) → collect-missing-patterns-lts.Need-enum-known-column (collect-missing-patterns-claims t) (collect-missing-patterns-at t) collect-missing-patterns.Post
 collect-missing-patterns-enum-known-column t c =
     search needs
 
 collect-missing-patterns-add-each : (t : ℕ) → collect-missing-patterns-lts.Need-add-each (collect-missing-patterns-claims t) (collect-missing-patterns-at t) collect-missing-patterns.Post
 collect-missing-patterns-add-each t c =
-    omega (arith, c .before .before .before .before .before .before .before .before .before .before .before .if2 .left)
+    let a = c .before .before .before .before .before .before .before .before .before .before .before .before .before .before .before .before .before .before .before .before .before .before .args in
+    let g = entered (a .calls) (a .rows * a .n) (a .room) (c .before .before .before .before .before .before .before .before .before .before .before .before .over .result) (c .before .before .before .before .before .before .before .before .before .before .before .before .over .ensures) (c .before .before .before .before .before .before .before .before .before .before .before .if1 .left) in
+    omega (arith, g .few)
+
+collect-missing-patterns-sub-each : (t : ℕ) → collect-missing-patterns-lts.Need-sub-each (collect-missing-patterns-claims t) (collect-missing-patterns-at t) collect-missing-patterns.Post
+collect-missing-patterns-sub-each t c =
+    let a = c .before .before .before .before .before .before .before .before .before .before .before .before .before .before .before .before .before .before .before .before .before .before .args in
+    let g = entered (a .calls) (a .rows * a .n) (a .room) (c .before .before .before .before .before .before .before .before .before .before .before .before .over .result) (c .before .before .before .before .before .before .before .before .before .before .before .before .over .ensures) (c .before .before .before .before .before .before .before .before .before .before .before .if1 .left) in
+    g .fits
 
 collect-missing-patterns-each-requires : (t : ℕ) → collect-missing-patterns-lts.Need-each-requires (collect-missing-patterns-claims t) (collect-missing-patterns-at t) collect-missing-patterns.Post
 collect-missing-patterns-each-requires t c κs =
     let a = c .before .before .before .before .before .before .before .before .before .before .before .before .before .before .before .before .before .before .before .before .before .before .args in
     let h = c .before .before .before .before .before .before .before .before .before .before .before .before .before .before .before .before .before .before .before .before .before .before .pre .1 in
     let low : (h : ℕ) → arOf (a .arities .now) h ≤ 255 = arity-byte (a .arities .now) (λ i. omega (arith, c .before .before .before .before .before .before .before .before .before .before .before .before .before .before .before .before .before .shared-slice-known5 .given i)) in
-    let some : 0 < a .rows = omega (arith, c .before .before .before .before .before .before .before .before .before .before .if3 .left) in
-    let pos : 0 < a .n = omega (arith, c .before .before .before .before .before .before .before .before .before .if4 .left) in
-    let g = full-range (a .bytes .now) (a .nodes .now) (a .left .now) (a .counts .now) (a .arities .now) low (a .n) (a .s .now) (a .rows) (a .room) (h .0) (a .path .now) (a .alts .now) (a .depth) (a .written) (a .found) (h .1 .0) (a .out .now) (a .calls) (c .before .before .before .before .before .before .before .before .before .before .before .before .if1 .left) (c .before .before .before .before .before .before .before .before .before .before .before .if2 .left) some pos (c .before .before .before .before .before .column .given .0 .0) (c .before .before .before .before .before .column .given .0 .1 .0) (sym (c .before .before .before .before .before .column .given .1) ∙ c .before .before .before .before .before .before .before .collect-ctors .ensures) in
-    let k : c .before .before .before .before .before .column .given .0 .1 .0 ≤ 255 = omega (arith, g .2, c .before .before .before .before .before .before .before .before .before .before .before .before .before .before .before .before .before .before .shared-slice-known4 .given ((c .before .before .before .before .before .column .given .0 .0 - 1) / 32)) in
-    (omega (arith, c .before .before .before .before .before .before .before .before .before .before .before .before .before .before .before .before .before .before .before .before .before .before .pre .0), (seen-held (a .bytes .now) (a .nodes .now) (a .left .now) (a .counts .now) (a .arities .now) low (a .n) (a .s .now) (a .rows) (a .room) (h .0) (a .path .now) (a .alts .now) (a .depth) (a .written) (a .found) (h .1 .0) (a .out .now) (a .calls) (c .before .before .before .before .before .before .before .before .before .before .before .before .if1 .left) (c .before .before .before .before .before .before .before .before .before .before .before .if2 .left) some pos, (seen-trail (a .bytes .now) (a .nodes .now) (a .left .now) (a .counts .now) (a .arities .now) low (a .n) (a .s .now) (a .rows) (a .room) (h .0) (a .path .now) (a .alts .now) (a .depth) (a .written) (a .found) (h .1 .0) (a .out .now) (a .calls) (c .before .before .before .before .before .before .before .before .before .before .before .before .if1 .left) (c .before .before .before .before .before .before .before .before .before .before .before .if2 .left) some pos, (full-listed (a .bytes .now) (a .nodes .now) (a .left .now) (a .counts .now) (a .arities .now) low (a .n) (a .s .now) (a .rows) (a .room) (h .0) (a .path .now) (a .alts .now) (a .depth) (a .written) (a .found) (h .1 .0) (a .out .now) (a .calls) (c .before .before .before .before .before .before .before .before .before .before .before .before .if1 .left) (c .before .before .before .before .before .before .before .before .before .before .before .if2 .left) some pos (c .before .before .before .before .before .column .given .0 .0) (c .before .before .before .before .before .column .given .0 .1 .0) (sym (c .before .before .before .before .before .column .given .1) ∙ c .before .before .before .before .before .before .before .collect-ctors .ensures), (omega (arith, c .before .before .before .before .before .before .before .before .before .before .before .if2 .left), g .0, omega (arith, g .1), k)))))
+    let some : 0 < a .rows = omega (arith, c .before .before .before .before .before .before .before .before .before .before .if2 .left) in
+    let pos : 0 < a .n = omega (arith, c .before .before .before .before .before .before .before .before .before .if3 .left) in
+    let g = entered (a .calls) (a .rows * a .n) (a .room) (c .before .before .before .before .before .before .before .before .before .before .before .before .over .result) (c .before .before .before .before .before .before .before .before .before .before .before .before .over .ensures) (c .before .before .before .before .before .before .before .before .before .before .before .if1 .left) in
+    let w = complete-seen (a .counts .now) (map (headAt (a .nodes .now) (a .left .now) (a .n)) (take (a .rows) (a .s .now))) (c .before .before .before .before .before .before .before .collect-ctors .result) (c .before .before .before .before .before .column .given .0 .0) (c .before .before .before .before .before .column .given .0 .1 .0) (c .before .before .before .before .before .column .given .1) (c .before .before .before .before .before .before .before .collect-ctors .ensures) in
+    let k : c .before .before .before .before .before .column .given .0 .1 .0 ≤ 255 = omega (arith, w .many, c .before .before .before .before .before .before .before .before .before .before .before .before .before .before .before .before .before .before .shared-slice-known4 .given ((c .before .before .before .before .before .column .given .0 .0 - 1) / 32)) in
+    (omega (arith, c .before .before .before .before .before .before .before .before .before .before .before .before .before .before .before .before .before .before .before .before .before .before .pre .0), (seen-held (a .bytes .now) (a .nodes .now) (a .left .now) (a .counts .now) (a .arities .now) low (a .n) (a .s .now) (a .rows) (a .room) (h .0) (a .path .now) (a .alts .now) (a .depth) (a .written) (a .found) (h .1 .0) (a .out .now) (a .calls) (g .fits) (g .few) some pos, (seen-trail (a .bytes .now) (a .nodes .now) (a .left .now) (a .counts .now) (a .arities .now) low (a .n) (a .s .now) (a .rows) (a .room) (h .0) (a .path .now) (a .alts .now) (a .depth) (a .written) (a .found) (h .1 .0) (a .out .now) (a .calls) (g .fits) (g .few) some pos, (w .listed, (omega (arith, g .few), w .positive, omega (arith, w .small), k)))))
 
-collect-missing-patterns-enum-known-column-2 :
-    (t : ℕ) → collect-missing-patterns-lts.Need-enum-known-column-2 (collect-missing-patterns-claims t) (collect-missing-patterns-at t) collect-missing-patterns.Post
+collect-missing-patterns-enum-known-column-2 : (t : ℕ) → collect-missing-patterns-lts.Need-enum-known-column-2 (collect-missing-patterns-claims t) (collect-missing-patterns-at t) collect-missing-patterns.Post
 collect-missing-patterns-enum-known-column-2 t c =
     search needs
 
@@ -277,15 +260,15 @@ collect-missing-patterns-mul-path t c =
     let h = c .before .before .before .before .before .before .before .before .before .before .before .before .before .before .before .before .before .before .pre .1 in
     omega (arith, h .1 .0 .deep)
 
-collect-missing-patterns-slice-write-path :
-    (t : ℕ) → collect-missing-patterns-lts.Need-slice-write-path (collect-missing-patterns-claims t) (collect-missing-patterns-at t) collect-missing-patterns.Post
+collect-missing-patterns-slice-write-path : (t : ℕ) → collect-missing-patterns-lts.Need-slice-write-path (collect-missing-patterns-claims t) (collect-missing-patterns-at t) collect-missing-patterns.Post
 collect-missing-patterns-slice-write-path t c =
     let a = c .before .before .before .before .before .before .before .before .before .before .before .before .before .before .before .before .before .before .args in
+    let g = entered (a .calls) (a .rows * a .n) (a .room) (c .before .before .before .before .before .before .before .before .over .result) (c .before .before .before .before .before .before .before .before .over .ensures) (c .before .before .before .before .before .before .before .if1 .left) in
     let h = c .before .before .before .before .before .before .before .before .before .before .before .before .before .before .before .before .before .before .pre .1 in
     let low : (h : ℕ) → arOf (a .arities .now) h ≤ 255 = arity-byte (a .arities .now) (λ i. omega (arith, c .before .before .before .before .before .before .before .before .before .before .before .before .before .shared-slice-known5 .given i)) in
-    let some : 0 < a .rows = omega (arith, c .before .before .before .before .before .before .if3 .left) in
-    let pos : 0 < a .n = omega (arith, c .before .before .before .before .before .if4 .left) in
-    let st = seen-trail (a .bytes .now) (a .nodes .now) (a .left .now) (a .counts .now) (a .arities .now) low (a .n) (a .s .now) (a .rows) (a .room) (h .0) (a .path .now) (a .alts .now) (a .depth) (a .written) (a .found) (h .1 .0) (a .out .now) (a .calls) (c .before .before .before .before .before .before .before .before .if1 .left) (c .before .before .before .before .before .before .before .if2 .left) some pos in
+    let some : 0 < a .rows = omega (arith, c .before .before .before .before .before .before .if2 .left) in
+    let pos : 0 < a .n = omega (arith, c .before .before .before .before .before .if3 .left) in
+    let st = seen-trail (a .bytes .now) (a .nodes .now) (a .left .now) (a .counts .now) (a .arities .now) low (a .n) (a .s .now) (a .rows) (a .room) (h .0) (a .path .now) (a .alts .now) (a .depth) (a .written) (a .found) (h .1 .0) (a .out .now) (a .calls) (g .fits) (g .few) some pos in
     omega (arith, st .deep, st .longPath)
 
 collect-missing-patterns-mul-alts : (t : ℕ) → collect-missing-patterns-lts.Need-mul-alts (collect-missing-patterns-claims t) (collect-missing-patterns-at t) collect-missing-patterns.Post
@@ -293,15 +276,15 @@ collect-missing-patterns-mul-alts t c =
     let h = c .before .before .before .before .before .before .before .before .before .before .before .before .before .before .before .before .before .before .pre .1 in
     omega (arith, h .1 .0 .deep)
 
-collect-missing-patterns-slice-write-alts :
-    (t : ℕ) → collect-missing-patterns-lts.Need-slice-write-alts (collect-missing-patterns-claims t) (collect-missing-patterns-at t) collect-missing-patterns.Post
+collect-missing-patterns-slice-write-alts : (t : ℕ) → collect-missing-patterns-lts.Need-slice-write-alts (collect-missing-patterns-claims t) (collect-missing-patterns-at t) collect-missing-patterns.Post
 collect-missing-patterns-slice-write-alts t c =
     let a = c .before .before .before .before .before .before .before .before .before .before .before .before .before .before .before .before .before .before .args in
+    let g = entered (a .calls) (a .rows * a .n) (a .room) (c .before .before .before .before .before .before .before .before .over .result) (c .before .before .before .before .before .before .before .before .over .ensures) (c .before .before .before .before .before .before .before .if1 .left) in
     let h = c .before .before .before .before .before .before .before .before .before .before .before .before .before .before .before .before .before .before .pre .1 in
     let low : (h : ℕ) → arOf (a .arities .now) h ≤ 255 = arity-byte (a .arities .now) (λ i. omega (arith, c .before .before .before .before .before .before .before .before .before .before .before .before .before .shared-slice-known5 .given i)) in
-    let some : 0 < a .rows = omega (arith, c .before .before .before .before .before .before .if3 .left) in
-    let pos : 0 < a .n = omega (arith, c .before .before .before .before .before .if4 .left) in
-    let st = seen-trail (a .bytes .now) (a .nodes .now) (a .left .now) (a .counts .now) (a .arities .now) low (a .n) (a .s .now) (a .rows) (a .room) (h .0) (a .path .now) (a .alts .now) (a .depth) (a .written) (a .found) (h .1 .0) (a .out .now) (a .calls) (c .before .before .before .before .before .before .before .before .if1 .left) (c .before .before .before .before .before .before .before .if2 .left) some pos in
+    let some : 0 < a .rows = omega (arith, c .before .before .before .before .before .before .if2 .left) in
+    let pos : 0 < a .n = omega (arith, c .before .before .before .before .before .if3 .left) in
+    let st = seen-trail (a .bytes .now) (a .nodes .now) (a .left .now) (a .counts .now) (a .arities .now) low (a .n) (a .s .now) (a .rows) (a .room) (h .0) (a .path .now) (a .alts .now) (a .depth) (a .written) (a .found) (h .1 .0) (a .out .now) (a .calls) (g .fits) (g .few) some pos in
     omega (arith, st .deep, st .longAlts)
 
 collect-missing-patterns-add-into : (t : ℕ) → collect-missing-patterns-lts.Need-add-into (collect-missing-patterns-claims t) (collect-missing-patterns-at t) collect-missing-patterns.Post
@@ -311,73 +294,79 @@ collect-missing-patterns-add-into t c =
 
 collect-missing-patterns-add-into-2 : (t : ℕ) → collect-missing-patterns-lts.Need-add-into-2 (collect-missing-patterns-claims t) (collect-missing-patterns-at t) collect-missing-patterns.Post
 collect-missing-patterns-add-into-2 t c =
-    omega (arith, c .before .before .before .before .before .before .before .before .before .before .before .if2 .left)
+    let a = c .before .before .before .before .before .before .before .before .before .before .before .before .before .before .before .before .before .before .before .before .before .before .args in
+    let g = entered (a .calls) (a .rows * a .n) (a .room) (c .before .before .before .before .before .before .before .before .before .before .before .before .over .result) (c .before .before .before .before .before .before .before .before .before .before .before .before .over .ensures) (c .before .before .before .before .before .before .before .before .before .before .before .if1 .left) in
+    omega (arith, g .few)
+
+collect-missing-patterns-sub-into : (t : ℕ) → collect-missing-patterns-lts.Need-sub-into (collect-missing-patterns-claims t) (collect-missing-patterns-at t) collect-missing-patterns.Post
+collect-missing-patterns-sub-into t c =
+    let a = c .before .before .before .before .before .before .before .before .before .before .before .before .before .before .before .before .before .before .before .before .before .before .args in
+    let g = entered (a .calls) (a .rows * a .n) (a .room) (c .before .before .before .before .before .before .before .before .before .before .before .before .over .result) (c .before .before .before .before .before .before .before .before .before .before .before .before .over .ensures) (c .before .before .before .before .before .before .before .before .before .before .before .if1 .left) in
+    g .fits
 
 collect-missing-patterns-into-requires : (t : ℕ) → collect-missing-patterns-lts.Need-into-requires (collect-missing-patterns-claims t) (collect-missing-patterns-at t) collect-missing-patterns.Post
 collect-missing-patterns-into-requires t c κs =
     let a = c .before .before .before .before .before .before .before .before .before .before .before .before .before .before .before .before .before .before .before .before .before .before .args in
+    let g = entered (a .calls) (a .rows * a .n) (a .room) (c .before .before .before .before .before .before .before .before .before .before .before .before .over .result) (c .before .before .before .before .before .before .before .before .before .before .before .before .over .ensures) (c .before .before .before .before .before .before .before .before .before .before .before .if1 .left) in
     let h = c .before .before .before .before .before .before .before .before .before .before .before .before .before .before .before .before .before .before .before .before .before .before .pre .1 in
     let low : (h : ℕ) → arOf (a .arities .now) h ≤ 255 = arity-byte (a .arities .now) (λ i. omega (arith, c .before .before .before .before .before .before .before .before .before .before .before .before .before .before .before .before .before .shared-slice-known5 .given i)) in
-    let some : 0 < a .rows = omega (arith, c .before .before .before .before .before .before .before .before .before .before .if3 .left) in
-    let pos : 0 < a .n = omega (arith, c .before .before .before .before .before .before .before .before .before .if4 .left) in
-    (open-falls (a .bytes .now) (a .nodes .now) (a .left .now) (a .counts .now) (a .arities .now) low (a .n) (a .s .now) (a .rows) (a .room) (h .0) (a .path .now) (a .alts .now) (a .depth) (a .written) (a .found) (h .1 .0) (a .out .now) (a .calls) (c .before .before .before .before .before .before .before .before .before .before .before .before .if1 .left) (c .before .before .before .before .before .before .before .before .before .before .before .if2 .left) some pos (c .before .before .before .before .before .column2 .given .0 .0) (c .before .before .before .before .before .column2 .given .0 .1 .0) (sym (c .before .before .before .before .before .column2 .given .1) ∙ c .before .before .before .before .before .before .before .collect-ctors .ensures) t (c .before .before .before .before .before .before .before .before .before .before .before .before .before .before .before .before .before .before .before .before .before .before .pre .0), (seen-held (a .bytes .now) (a .nodes .now) (a .left .now) (a .counts .now) (a .arities .now) low (a .n) (a .s .now) (a .rows) (a .room) (h .0) (a .path .now) (a .alts .now) (a .depth) (a .written) (a .found) (h .1 .0) (a .out .now) (a .calls) (c .before .before .before .before .before .before .before .before .before .before .before .before .if1 .left) (c .before .before .before .before .before .before .before .before .before .before .before .if2 .left) some pos, (trail-next (a .path .now) (a .alts .now) (a .depth) (a .room - a .rows * a .n) (a .written) (a .found) (seen-trail (a .bytes .now) (a .nodes .now) (a .left .now) (a .counts .now) (a .arities .now) low (a .n) (a .s .now) (a .rows) (a .room) (h .0) (a .path .now) (a .alts .now) (a .depth) (a .written) (a .found) (h .1 .0) (a .out .now) (a .calls) (c .before .before .before .before .before .before .before .before .before .before .before .before .if1 .left) (c .before .before .before .before .before .before .before .before .before .before .before .if2 .left) some pos) (c .before .before .before .before .before .column2 .given .0 .0) (c .before .before .before .before .before .column2 .given .0 .1 .0) (open-node (a .bytes .now) (a .nodes .now) (a .left .now) (a .counts .now) (a .arities .now) low (a .n) (a .s .now) (a .rows) (a .room) (h .0) (a .path .now) (a .alts .now) (a .depth) (a .written) (a .found) (h .1 .0) (a .out .now) (a .calls) (c .before .before .before .before .before .before .before .before .before .before .before .before .if1 .left) (c .before .before .before .before .before .before .before .before .before .before .before .if2 .left) some pos (c .before .before .before .before .before .column2 .given .0 .0) (c .before .before .before .before .before .column2 .given .0 .1 .0) (sym (c .before .before .before .before .before .column2 .given .1) ∙ c .before .before .before .before .before .before .before .collect-ctors .ensures)), omega arith)))
+    let some : 0 < a .rows = omega (arith, c .before .before .before .before .before .before .before .before .before .before .if2 .left) in
+    let pos : 0 < a .n = omega (arith, c .before .before .before .before .before .before .before .before .before .if3 .left) in
+    (open-falls (a .bytes .now) (a .nodes .now) (a .left .now) (a .counts .now) (a .arities .now) low (a .n) (a .s .now) (a .rows) (a .room) (h .0) (a .path .now) (a .alts .now) (a .depth) (a .written) (a .found) (h .1 .0) (a .out .now) (a .calls) (g .fits) (g .few) some pos (c .before .before .before .before .before .before .before .collect-ctors .result) (c .before .before .before .before .before .before .before .collect-ctors .ensures) (c .before .before .before .before .before .column2 .given .0 .0) (c .before .before .before .before .before .column2 .given .0 .1 .0) (c .before .before .before .before .before .column2 .given .1) t (c .before .before .before .before .before .before .before .before .before .before .before .before .before .before .before .before .before .before .before .before .before .before .pre .0), (seen-held (a .bytes .now) (a .nodes .now) (a .left .now) (a .counts .now) (a .arities .now) low (a .n) (a .s .now) (a .rows) (a .room) (h .0) (a .path .now) (a .alts .now) (a .depth) (a .written) (a .found) (h .1 .0) (a .out .now) (a .calls) (g .fits) (g .few) some pos, (trail-next (a .path .now) (a .alts .now) (a .depth) (a .room - a .rows * a .n) (a .written) (a .found) (seen-trail (a .bytes .now) (a .nodes .now) (a .left .now) (a .counts .now) (a .arities .now) low (a .n) (a .s .now) (a .rows) (a .room) (h .0) (a .path .now) (a .alts .now) (a .depth) (a .written) (a .found) (h .1 .0) (a .out .now) (a .calls) (g .fits) (g .few) some pos) (c .before .before .before .before .before .column2 .given .0 .0) (c .before .before .before .before .before .column2 .given .0 .1 .0) (open-node (a .bytes .now) (a .nodes .now) (a .left .now) (a .counts .now) (a .arities .now) low (a .n) (a .s .now) (a .rows) (a .room) (h .0) (a .path .now) (a .alts .now) (a .depth) (a .written) (a .found) (h .1 .0) (a .out .now) (a .calls) (g .fits) (g .few) some pos (c .before .before .before .before .before .before .before .collect-ctors .result) (c .before .before .before .before .before .before .before .collect-ctors .ensures) (c .before .before .before .before .before .column2 .given .0 .0) (c .before .before .before .before .before .column2 .given .0 .1 .0) (c .before .before .before .before .before .column2 .given .1)), omega arith)))
+
+collect-missing-patterns-same-length-4 : (t : ℕ) → collect-missing-patterns-lts.Need-same-length-4 (collect-missing-patterns-claims t) (collect-missing-patterns-at t) collect-missing-patterns.Post
+collect-missing-patterns-same-length-4 t c =
+    c .before .before .before .before .before .before .before .before .each .kept .1 .1 .1 .1 .1 .1 .1 .1 .0
+
+collect-missing-patterns-same-length-5 : (t : ℕ) → collect-missing-patterns-lts.Need-same-length-5 (collect-missing-patterns-claims t) (collect-missing-patterns-at t) collect-missing-patterns.Post
+collect-missing-patterns-same-length-5 t c =
+    c .before .before .before .before .before .before .before .before .each .kept .1 .1 .1 .1 .1 .1 .1 .1 .1 .1 .0
+
+collect-missing-patterns-same-length-6 : (t : ℕ) → collect-missing-patterns-lts.Need-same-length-6 (collect-missing-patterns-claims t) (collect-missing-patterns-at t) collect-missing-patterns.Post
+collect-missing-patterns-same-length-6 t c =
+    c .before .before .before .before .before .before .before .before .each .kept .1 .1 .1 .1 .1 .1 .1 .1 .1 .1 .1 .0
 
 collect-missing-patterns-same-length-7 : (t : ℕ) → collect-missing-patterns-lts.Need-same-length-7 (collect-missing-patterns-claims t) (collect-missing-patterns-at t) collect-missing-patterns.Post
 collect-missing-patterns-same-length-7 t c =
-    c .before .before .before .before .before .before .before .before .each .kept .1 .1 .1 .1 .1 .1 .1 .1 .0
+    c .before .before .before .before .before .before .before .before .each .kept .1 .1 .1 .1 .1 .1 .1 .1 .1 .1 .1 .1 .1 .0
+
+collect-missing-patterns-returns-4 : (t : ℕ) → collect-missing-patterns-lts.Need-returns-4 (collect-missing-patterns-claims t) (collect-missing-patterns-at t) collect-missing-patterns.Post
+collect-missing-patterns-returns-4 t c =
+    let a = c .before .before .before .before .before .before .before .before .before .before .before .before .before .before .before .before .before .before .before .before .before .before .before .before .before .before .before .before .before .before .before .args in
+    let g = entered (a .calls) (a .rows * a .n) (a .room) (c .before .before .before .before .before .before .before .before .before .before .before .before .before .before .before .before .before .before .before .before .before .over .result) (c .before .before .before .before .before .before .before .before .before .before .before .before .before .before .before .before .before .before .before .before .before .over .ensures) (c .before .before .before .before .before .before .before .before .before .before .before .before .before .before .before .before .before .before .before .before .if1 .left) in
+    let h = c .before .before .before .before .before .before .before .before .before .before .before .before .before .before .before .before .before .before .before .before .before .before .before .before .before .before .before .before .before .before .before .pre .1 in
+    let low : (h : ℕ) → arOf (a .arities .now) h ≤ 255 = arity-byte (a .arities .now) (λ i. omega (arith, c .before .before .before .before .before .before .before .before .before .before .before .before .before .before .before .before .before .before .before .before .before .before .before .before .before .before .shared-slice-known5 .given i)) in
+    let some : 0 < a .rows = omega (arith, c .before .before .before .before .before .before .before .before .before .before .before .before .before .before .before .before .before .before .before .if2 .left) in
+    let pos : 0 < a .n = omega (arith, c .before .before .before .before .before .before .before .before .before .before .before .before .before .before .before .before .before .before .if3 .left) in
+    let q = c .before .before .before .before .before .before .before .before .each in
+    is-full (a .bytes .now) (a .nodes .now) (a .left .now) (a .counts .now) (a .arities .now) low (a .n) (a .s .now) (a .rows) (a .room) (h .0) (a .path .now) (a .alts .now) (a .depth) (a .written) (a .found) (h .1 .0) (a .out .now) (a .calls) (g .fits) (g .few) some pos (c .before .before .before .before .before .before .before .before .before .before .before .before .before .before .before .before .collect-ctors .result) (c .before .before .before .before .before .before .before .before .before .before .before .before .before .before .before .before .collect-ctors .ensures) (c .before .before .before .before .before .before .before .before .before .before .before .before .before .before .column .given .0 .0) (c .before .before .before .before .before .before .before .before .before .before .before .before .before .before .column .given .0 .1 .0) (c .before .before .before .before .before .before .before .before .before .before .before .before .before .before .column .given .1) (q .last .1 .1 .1 .1 .1 .1 .1 .1 .0) (q .last .1 .1 .1 .1 .1 .1 .1 .1 .1 .1 .0) (q .last .1 .1 .1 .1 .1 .1 .1 .1 .1 .1 .1 .0) (q .last .1 .1 .1 .1 .1 .1 .1 .1 .1 .1 .1 .1 .1 .0) (q .result) (q .ensures)
 
 collect-missing-patterns-same-length-8 : (t : ℕ) → collect-missing-patterns-lts.Need-same-length-8 (collect-missing-patterns-claims t) (collect-missing-patterns-at t) collect-missing-patterns.Post
 collect-missing-patterns-same-length-8 t c =
-    c .before .before .before .before .before .before .before .before .each .kept .1 .1 .1 .1 .1 .1 .1 .1 .1 .1 .0
+    c .before .before .before .before .before .before .before .before .into .kept .1 .1 .1 .1 .1 .1 .1 .0
 
 collect-missing-patterns-same-length-9 : (t : ℕ) → collect-missing-patterns-lts.Need-same-length-9 (collect-missing-patterns-claims t) (collect-missing-patterns-at t) collect-missing-patterns.Post
 collect-missing-patterns-same-length-9 t c =
-    c .before .before .before .before .before .before .before .before .each .kept .1 .1 .1 .1 .1 .1 .1 .1 .1 .1 .1 .0
-
-collect-missing-patterns-same-length-10 :
-    (t : ℕ) → collect-missing-patterns-lts.Need-same-length-10 (collect-missing-patterns-claims t) (collect-missing-patterns-at t) collect-missing-patterns.Post
-collect-missing-patterns-same-length-10 t c =
-    c .before .before .before .before .before .before .before .before .each .kept .1 .1 .1 .1 .1 .1 .1 .1 .1 .1 .1 .1 .1 .0
-
-collect-missing-patterns-returns-6 : (t : ℕ) → collect-missing-patterns-lts.Need-returns-6 (collect-missing-patterns-claims t) (collect-missing-patterns-at t) collect-missing-patterns.Post
-collect-missing-patterns-returns-6 t c =
-    let a = c .before .before .before .before .before .before .before .before .before .before .before .before .before .before .before .before .before .before .before .before .before .before .before .before .before .before .before .before .before .before .before .args in
-    let h = c .before .before .before .before .before .before .before .before .before .before .before .before .before .before .before .before .before .before .before .before .before .before .before .before .before .before .before .before .before .before .before .pre .1 in
-    let low : (h : ℕ) → arOf (a .arities .now) h ≤ 255 = arity-byte (a .arities .now) (λ i. omega (arith, c .before .before .before .before .before .before .before .before .before .before .before .before .before .before .before .before .before .before .before .before .before .before .before .before .before .before .shared-slice-known5 .given i)) in
-    let some : 0 < a .rows = omega (arith, c .before .before .before .before .before .before .before .before .before .before .before .before .before .before .before .before .before .before .before .if3 .left) in
-    let pos : 0 < a .n = omega (arith, c .before .before .before .before .before .before .before .before .before .before .before .before .before .before .before .before .before .before .if4 .left) in
-    let q = c .before .before .before .before .before .before .before .before .each in
-    is-full (a .bytes .now) (a .nodes .now) (a .left .now) (a .counts .now) (a .arities .now) low (a .n) (a .s .now) (a .rows) (a .room) (h .0) (a .path .now) (a .alts .now) (a .depth) (a .written) (a .found) (h .1 .0) (a .out .now) (a .calls) (c .before .before .before .before .before .before .before .before .before .before .before .before .before .before .before .before .before .before .before .before .before .if1 .left) (c .before .before .before .before .before .before .before .before .before .before .before .before .before .before .before .before .before .before .before .before .if2 .left) some pos (c .before .before .before .before .before .before .before .before .before .before .before .before .before .before .column .given .0 .0) (c .before .before .before .before .before .before .before .before .before .before .before .before .before .before .column .given .0 .1 .0) (sym (c .before .before .before .before .before .before .before .before .before .before .before .before .before .before .column .given .1) ∙ c .before .before .before .before .before .before .before .before .before .before .before .before .before .before .before .before .collect-ctors .ensures) (q .last .1 .1 .1 .1 .1 .1 .1 .1 .0) (q .last .1 .1 .1 .1 .1 .1 .1 .1 .1 .1 .0) (q .last .1 .1 .1 .1 .1 .1 .1 .1 .1 .1 .1 .0) (q .last .1 .1 .1 .1 .1 .1 .1 .1 .1 .1 .1 .1 .1 .0) (q .result) (q .ensures)
-
-collect-missing-patterns-same-length-11 :
-    (t : ℕ) → collect-missing-patterns-lts.Need-same-length-11 (collect-missing-patterns-claims t) (collect-missing-patterns-at t) collect-missing-patterns.Post
-collect-missing-patterns-same-length-11 t c =
-    c .before .before .before .before .before .before .before .before .into .kept .1 .1 .1 .1 .1 .1 .1 .0
-
-collect-missing-patterns-same-length-12 :
-    (t : ℕ) → collect-missing-patterns-lts.Need-same-length-12 (collect-missing-patterns-claims t) (collect-missing-patterns-at t) collect-missing-patterns.Post
-collect-missing-patterns-same-length-12 t c =
     c .before .before .before .before .before .before .before .before .into .kept .1 .1 .1 .1 .1 .1 .1 .1 .1 .0 ∙ length-set (c .before .before .before .before .before .before .before .before .before .before .before .before .before .before .before .before .before .before .before .before .before .before .before .before .before .before .before .before .before .before .before .args .path .now) (c .before .before .before .before .before .before .before .before .before .before .before .before .before .before .before .before .before .before .before .before .before .before .before .before .before .before .before .before .before .before .before .args .depth) (c .before .before .before .before .before .before .before .before .before .before .before .before .before .before .column2 .given .0 .0)
 
-collect-missing-patterns-same-length-13 :
-    (t : ℕ) → collect-missing-patterns-lts.Need-same-length-13 (collect-missing-patterns-claims t) (collect-missing-patterns-at t) collect-missing-patterns.Post
-collect-missing-patterns-same-length-13 t c =
+collect-missing-patterns-same-length-10 : (t : ℕ) → collect-missing-patterns-lts.Need-same-length-10 (collect-missing-patterns-claims t) (collect-missing-patterns-at t) collect-missing-patterns.Post
+collect-missing-patterns-same-length-10 t c =
     c .before .before .before .before .before .before .before .before .into .kept .1 .1 .1 .1 .1 .1 .1 .1 .1 .1 .0 ∙ length-set (c .before .before .before .before .before .before .before .before .before .before .before .before .before .before .before .before .before .before .before .before .before .before .before .before .before .before .before .before .before .before .before .args .alts .now) (c .before .before .before .before .before .before .before .before .before .before .before .before .before .before .before .before .before .before .before .before .before .before .before .before .before .before .before .before .before .before .before .args .depth) (c .before .before .before .before .before .before .before .before .before .before .before .before .before .before .column2 .given .0 .1 .0)
 
-collect-missing-patterns-same-length-14 :
-    (t : ℕ) → collect-missing-patterns-lts.Need-same-length-14 (collect-missing-patterns-claims t) (collect-missing-patterns-at t) collect-missing-patterns.Post
-collect-missing-patterns-same-length-14 t c =
+collect-missing-patterns-same-length-11 : (t : ℕ) → collect-missing-patterns-lts.Need-same-length-11 (collect-missing-patterns-claims t) (collect-missing-patterns-at t) collect-missing-patterns.Post
+collect-missing-patterns-same-length-11 t c =
     c .before .before .before .before .before .before .before .before .into .kept .1 .1 .1 .1 .1 .1 .1 .1 .1 .1 .1 .1 .0
 
-collect-missing-patterns-returns-7 : (t : ℕ) → collect-missing-patterns-lts.Need-returns-7 (collect-missing-patterns-claims t) (collect-missing-patterns-at t) collect-missing-patterns.Post
-collect-missing-patterns-returns-7 t c =
+collect-missing-patterns-returns-5 : (t : ℕ) → collect-missing-patterns-lts.Need-returns-5 (collect-missing-patterns-claims t) (collect-missing-patterns-at t) collect-missing-patterns.Post
+collect-missing-patterns-returns-5 t c =
     let a = c .before .before .before .before .before .before .before .before .before .before .before .before .before .before .before .before .before .before .before .before .before .before .before .before .before .before .before .before .before .before .before .args in
+    let g = entered (a .calls) (a .rows * a .n) (a .room) (c .before .before .before .before .before .before .before .before .before .before .before .before .before .before .before .before .before .before .before .before .before .over .result) (c .before .before .before .before .before .before .before .before .before .before .before .before .before .before .before .before .before .before .before .before .before .over .ensures) (c .before .before .before .before .before .before .before .before .before .before .before .before .before .before .before .before .before .before .before .before .if1 .left) in
     let h = c .before .before .before .before .before .before .before .before .before .before .before .before .before .before .before .before .before .before .before .before .before .before .before .before .before .before .before .before .before .before .before .pre .1 in
     let low : (h : ℕ) → arOf (a .arities .now) h ≤ 255 = arity-byte (a .arities .now) (λ i. omega (arith, c .before .before .before .before .before .before .before .before .before .before .before .before .before .before .before .before .before .before .before .before .before .before .before .before .before .before .shared-slice-known5 .given i)) in
-    let some : 0 < a .rows = omega (arith, c .before .before .before .before .before .before .before .before .before .before .before .before .before .before .before .before .before .before .before .if3 .left) in
-    let pos : 0 < a .n = omega (arith, c .before .before .before .before .before .before .before .before .before .before .before .before .before .before .before .before .before .before .if4 .left) in
+    let some : 0 < a .rows = omega (arith, c .before .before .before .before .before .before .before .before .before .before .before .before .before .before .before .before .before .before .before .if2 .left) in
+    let pos : 0 < a .n = omega (arith, c .before .before .before .before .before .before .before .before .before .before .before .before .before .before .before .before .before .before .if3 .left) in
     let q = c .before .before .before .before .before .before .before .before .into in
-    is-open (a .bytes .now) (a .nodes .now) (a .left .now) (a .counts .now) (a .arities .now) low (a .n) (a .s .now) (a .rows) (a .room) (h .0) (a .path .now) (a .alts .now) (a .depth) (a .written) (a .found) (h .1 .0) (a .out .now) (a .calls) (c .before .before .before .before .before .before .before .before .before .before .before .before .before .before .before .before .before .before .before .before .before .if1 .left) (c .before .before .before .before .before .before .before .before .before .before .before .before .before .before .before .before .before .before .before .before .if2 .left) some pos (c .before .before .before .before .before .before .before .before .before .before .before .before .before .before .column2 .given .0 .0) (c .before .before .before .before .before .before .before .before .before .before .before .before .before .before .column2 .given .0 .1 .0) (sym (c .before .before .before .before .before .before .before .before .before .before .before .before .before .before .column2 .given .1) ∙ c .before .before .before .before .before .before .before .before .before .before .before .before .before .before .before .before .collect-ctors .ensures) (q .last .1 .1 .1 .1 .1 .1 .1 .0) (q .last .1 .1 .1 .1 .1 .1 .1 .1 .1 .0) (q .last .1 .1 .1 .1 .1 .1 .1 .1 .1 .1 .0) (q .last .1 .1 .1 .1 .1 .1 .1 .1 .1 .1 .1 .1 .0) (q .result) (q .ensures)
+    is-open (a .bytes .now) (a .nodes .now) (a .left .now) (a .counts .now) (a .arities .now) low (a .n) (a .s .now) (a .rows) (a .room) (h .0) (a .path .now) (a .alts .now) (a .depth) (a .written) (a .found) (h .1 .0) (a .out .now) (a .calls) (g .fits) (g .few) some pos (c .before .before .before .before .before .before .before .before .before .before .before .before .before .before .before .before .collect-ctors .result) (c .before .before .before .before .before .before .before .before .before .before .before .before .before .before .before .before .collect-ctors .ensures) (c .before .before .before .before .before .before .before .before .before .before .before .before .before .before .column2 .given .0 .0) (c .before .before .before .before .before .before .before .before .before .before .before .before .before .before .column2 .given .0 .1 .0) (c .before .before .before .before .before .before .before .before .before .before .before .before .before .before .column2 .given .1) (q .last .1 .1 .1 .1 .1 .1 .1 .0) (q .last .1 .1 .1 .1 .1 .1 .1 .1 .1 .0) (q .last .1 .1 .1 .1 .1 .1 .1 .1 .1 .1 .0) (q .last .1 .1 .1 .1 .1 .1 .1 .1 .1 .1 .1 .1 .0) (q .result) (q .ensures)
 
 each-returns :
     (t : ℕ) →
@@ -638,27 +627,22 @@ pub +aside+collect-missing-patterns+each+into-spec : {M : Type 1} → statement 
     (collect-missing-patterns-at t)
     collect-missing-patterns.Post
     (collect-missing-patterns-mul-cells t)
+    (collect-missing-patterns-over-requires t)
     (collect-missing-patterns-returns t)
-    (collect-missing-patterns-returns-2 t)
     (collect-missing-patterns-put-rows-requires t)
-    (collect-missing-patterns-add-c t)
-    (collect-missing-patterns-enum-told t)
-    (collect-missing-patterns-enum-known-r t)
+    (collect-missing-patterns-counted-requires t)
     (collect-missing-patterns-same-length t)
     (collect-missing-patterns-same-length-2 t)
     (collect-missing-patterns-same-length-3 t)
+    (collect-missing-patterns-returns-2 t)
+    (collect-missing-patterns-counted-requires-2 t)
     (collect-missing-patterns-returns-3 t)
-    (collect-missing-patterns-same-length-4 t)
-    (collect-missing-patterns-same-length-5 t)
-    (collect-missing-patterns-same-length-6 t)
-    (collect-missing-patterns-returns-4 t)
-    (collect-missing-patterns-add-t35 t)
-    (collect-missing-patterns-returns-5 t)
     (collect-missing-patterns-slice-reshare-prefix-collect-ctors t)
     (collect-missing-patterns-slice-aggregate-collect-ctors t)
     (collect-missing-patterns-collect-ctors-requires t)
     (collect-missing-patterns-enum-known-column t)
     (collect-missing-patterns-add-each t)
+    (collect-missing-patterns-sub-each t)
     (collect-missing-patterns-each-requires t)
     (collect-missing-patterns-enum-known-column-2 t)
     (collect-missing-patterns-mul-path t)
@@ -667,17 +651,18 @@ pub +aside+collect-missing-patterns+each+into-spec : {M : Type 1} → statement 
     (collect-missing-patterns-slice-write-alts t)
     (collect-missing-patterns-add-into t)
     (collect-missing-patterns-add-into-2 t)
+    (collect-missing-patterns-sub-into t)
     (collect-missing-patterns-into-requires t)
+    (collect-missing-patterns-same-length-4 t)
+    (collect-missing-patterns-same-length-5 t)
+    (collect-missing-patterns-same-length-6 t)
     (collect-missing-patterns-same-length-7 t)
+    (collect-missing-patterns-returns-4 t)
     (collect-missing-patterns-same-length-8 t)
     (collect-missing-patterns-same-length-9 t)
     (collect-missing-patterns-same-length-10 t)
-    (collect-missing-patterns-returns-6 t)
     (collect-missing-patterns-same-length-11 t)
-    (collect-missing-patterns-same-length-12 t)
-    (collect-missing-patterns-same-length-13 t)
-    (collect-missing-patterns-same-length-14 t)
-    (collect-missing-patterns-returns-7 t))
+    (collect-missing-patterns-returns-5 t))
     (λ t. each-lts.spec
     (each-claims t)
     (each-at t)

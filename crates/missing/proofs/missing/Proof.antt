@@ -2,7 +2,7 @@
 use Rattle.missing.proofs.Driver.{first-opened, first-trail, missing-is, missing-text, finds-all}
 use Rattle.collect.specs.Ready.{sought}
 use Rattle.missing.specs.Missing.{missingRows, outAfter}
-use Rattle.collect.specs.declared.Seek.the-variants.{Done, Over}
+use Rattle.outcomes.specs.declared.Seek.the-variants.{Done, Over}
 use lib.ListN.{replicate}
 use native.Mathlib.Omega.{arith}
 use Prim.Native.Nat.{ℕ}

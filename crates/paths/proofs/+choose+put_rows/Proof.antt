@@ -1,5 +1,5 @@
 -- `paths::choose` and `paths::put_rows` meet their contracts. The measure: 40 for each step that is still to be chosen.
-use Rattle.paths.proofs.PathChoose.{fewer, rows-over, rows-done, rows-on, rows-chosen, choose-none, choose-skip, choose-spelling, choose-over, choose-fit, choose-then, kept-cell, restored}
+use Rattle.paths.proofs.PathChoose.{fewer, rows-fit, rows-on, rows-chosen, choose-none, choose-skip, choose-spelling, choose-over, choose-fit, choose-then, kept-cell, restored}
 use lib.ListN.{getD, set, length-set}
 use borrow.Author.Needs.{needs}
 use native.Mathlib.Omega.{arith}
@@ -14,6 +14,7 @@ use Rattle.paths.proofs.put_rows.Reads as put-rows
 use Rattle.paths.proofs.put_rows.Kinds as put-rows-kinds
 use Rattle.paths.proofs.+choose+put_rows.Lts-put_rows as put-rows-lts
 use Rattle.paths.proofs.put_row.Reads as put-row-reads
+use Rattle.outcomes.proofs.fit.Reads as fit-reads
 use Rattle.paths.proofs.+choose+put_rows.{statement}
 use Rattle.paths.proofs.+choose+put_rows.Tie.{close}
 
@@ -41,7 +42,7 @@ abbrev choose-claims : ℕ → choose-lts.Claims
 choose-claims t = (choose-below t, choose.Post, put-rows-below t, put-rows.Post)
 
 abbrev put-rows-claims : ℕ → put-rows-lts.Claims
-put-rows-claims t = (put-row-reads.Asked, put-row-reads.Learnt, put-rows-below t, put-rows.Post, choose-below t, choose.Post)
+put-rows-claims t = (put-row-reads.Asked, put-row-reads.Learnt, fit-reads.Asked, fit-reads.Learnt, put-rows-below t, put-rows.Post, choose-below t, choose.Post)
 
 choose-returns : (t : ℕ) → choose-lts.Need-returns (choose-claims t) (choose-at t) choose.Post
 choose-returns t c =
@@ -157,30 +158,17 @@ put-rows-same-length t c = search needs
 put-rows-same-length-2 : (t : ℕ) → put-rows-lts.Need-same-length-2 (put-rows-claims t) (put-rows-at t) put-rows.Post
 put-rows-same-length-2 t c = search needs
 
+put-rows-fit-requires : (t : ℕ) → put-rows-lts.Need-fit-requires (put-rows-claims t) (put-rows-at t) put-rows.Post
+put-rows-fit-requires t c κs =
+    let h = c .before .before .before .before .before .before .before .before .before .before .pre .1 in
+    omega (arith, h .few, h .within)
+
 put-rows-returns : (t : ℕ) → put-rows-lts.Need-returns (put-rows-claims t) (put-rows-at t) put-rows.Post
 put-rows-returns t c =
     let a = c .before .before .before .before .before .before .before .before .before .before .before .args in
     let h = c .before .before .before .before .before .before .before .before .before .before .before .pre .1 in
     let p = c .before .before .before .put-row in
-    (rows-over (a .arities .now) (a .path .now) (a .alts .now) (a .depth) (a .k) (a .n) (a .written) (a .rows) h (c .before .before .before .before .before .before .if1 .taken) (a .out .now) (p .result) (p .last .1 .1 .1 .1 .1 .0) (p .ensures) (c .if2 .taken), refl)
-
-put-rows-add-t21 : (t : ℕ) → put-rows-lts.Need-add-t21 (put-rows-claims t) (put-rows-at t) put-rows.Post
-put-rows-add-t21 t c =
-    let h = c .before .before .before .before .before .before .before .before .before .before .before .pre .1 in
-    omega (arith, h .few, h .within)
-
-put-rows-same-length-3 : (t : ℕ) → put-rows-lts.Need-same-length-3 (put-rows-claims t) (put-rows-at t) put-rows.Post
-put-rows-same-length-3 t c = search needs
-
-put-rows-same-length-4 : (t : ℕ) → put-rows-lts.Need-same-length-4 (put-rows-claims t) (put-rows-at t) put-rows.Post
-put-rows-same-length-4 t c = search needs
-
-put-rows-returns-2 : (t : ℕ) → put-rows-lts.Need-returns-2 (put-rows-claims t) (put-rows-at t) put-rows.Post
-put-rows-returns-2 t c =
-    let a = c .before .before .before .before .before .before .before .before .before .before .before .args in
-    let h = c .before .before .before .before .before .before .before .before .before .before .before .pre .1 in
-    let p = c .before .before .before .put-row in
-    (rows-done (a .arities .now) (a .path .now) (a .alts .now) (a .depth) (a .k) (a .n) (a .written) (a .rows) h (c .before .before .before .before .before .before .if1 .taken) (a .out .now) (p .result) (p .last .1 .1 .1 .1 .1 .0) (p .ensures) (c .if2 .left), refl)
+    (rows-fit (a .arities .now) (a .path .now) (a .alts .now) (a .depth) (a .k) (a .n) (a .written) (a .rows) h (c .before .before .before .before .before .before .if1 .taken) (a .out .now) (p .result) (p .last .1 .1 .1 .1 .1 .0) (p .ensures) (c .fit .result) (c .fit .ensures), refl)
 
 put-rows-sub-j : (t : ℕ) → put-rows-lts.Need-sub-j (put-rows-claims t) (put-rows-at t) put-rows.Post
 put-rows-sub-j t c = search needs
@@ -211,25 +199,25 @@ put-rows-put-rows-requires t c κs =
     let h = c .before .before .before .before .before .before .before .before .before .before .pre .1 in
     (omega (arith, c .before .before .before .before .before .before .before .before .before .before .pre .0, c .before .before .before .before .before .if1 .left), fewer (a .arities .now) (a .path .now) (a .alts .now) (a .depth) (a .k) (a .n) (a .written) (a .rows) h (a .k - 1) (omega arith))
 
-put-rows-same-length-5 : (t : ℕ) → put-rows-lts.Need-same-length-5 (put-rows-claims t) (put-rows-at t) put-rows.Post
-put-rows-same-length-5 t c = search needs
+put-rows-same-length-3 : (t : ℕ) → put-rows-lts.Need-same-length-3 (put-rows-claims t) (put-rows-at t) put-rows.Post
+put-rows-same-length-3 t c = search needs
 
-put-rows-same-length-6 : (t : ℕ) → put-rows-lts.Need-same-length-6 (put-rows-claims t) (put-rows-at t) put-rows.Post
-put-rows-same-length-6 t c = search needs
+put-rows-same-length-4 : (t : ℕ) → put-rows-lts.Need-same-length-4 (put-rows-claims t) (put-rows-at t) put-rows.Post
+put-rows-same-length-4 t c = search needs
 
-put-rows-returns-3 : (t : ℕ) → put-rows-lts.Need-returns-3 (put-rows-claims t) (put-rows-at t) put-rows.Post
-put-rows-returns-3 t c =
+put-rows-returns-2 : (t : ℕ) → put-rows-lts.Need-returns-2 (put-rows-claims t) (put-rows-at t) put-rows.Post
+put-rows-returns-2 t c =
     let a = c .before .before .before .before .before .before .before .before .before .before .before .before .before .before .before .args in
     let h = c .before .before .before .before .before .before .before .before .before .before .before .before .before .before .before .pre .1 in
     let q = c .before .before .before .before .put-rows in
-    (rows-on (a .arities .now) (a .path .now) (a .alts .now) (a .depth) (a .k) (a .n) (a .written) (a .rows) h (omega (arith, c .before .before .before .before .before .before .before .before .before .before .if1 .left)) (a .out .now) (q .result) (q .last .1 .1 .1 .1 .1 .1 .0) (c .before .before .before .before .before .before .before .if3 .taken) (q .ensures .0), q .ensures .1)
+    (rows-on (a .arities .now) (a .path .now) (a .alts .now) (a .depth) (a .k) (a .n) (a .written) (a .rows) h (omega (arith, c .before .before .before .before .before .before .before .before .before .before .if1 .left)) (a .out .now) (q .result) (q .last .1 .1 .1 .1 .1 .1 .0) (c .before .before .before .before .before .before .before .if2 .taken) (q .ensures .0), q .ensures .1)
 
 put-rows-choose-requires : (t : ℕ) → put-rows-lts.Need-choose-requires (put-rows-claims t) (put-rows-at t) put-rows.Post
 put-rows-choose-requires t c κs =
     let a = c .before .before .before .before .before .before .before .before .before .before .args in
     let h = c .before .before .before .before .before .before .before .before .before .before .pre .1 in
     let pos : 0 < a .k = omega (arith, c .before .before .before .before .before .if1 .left) in
-    (omega (arith, c .before .before .before .before .before .before .before .before .before .before .pre .0), (fewer (a .arities .now) (a .path .now) (a .alts .now) (a .depth) (a .k) (a .n) (a .written) (a .rows) h (a .k - 1) (omega arith), (omega (arith, h .inside), omega (arith, c .before .before .if3 .left), h .low .each (a .k - 1) (omega arith), omega arith)))
+    (omega (arith, c .before .before .before .before .before .before .before .before .before .before .pre .0), (fewer (a .arities .now) (a .path .now) (a .alts .now) (a .depth) (a .k) (a .n) (a .written) (a .rows) h (a .k - 1) (omega arith), (omega (arith, h .inside), omega (arith, c .before .before .if2 .left), h .low .each (a .k - 1) (omega arith), omega arith)))
 
 put-rows-mul-path : (t : ℕ) → put-rows-lts.Need-mul-path (put-rows-claims t) (put-rows-at t) put-rows.Post
 put-rows-mul-path t c =
@@ -241,19 +229,19 @@ put-rows-slice-write-path t c =
     let h = c .before .before .before .before .before .before .before .before .before .before .before .before .before .before .before .pre .1 in
     omega (arith, h .inside, h .longPath, c .before .before .before .before .before .before .before .before .before .before .if1 .left, c .before .before .before .before .choose .kept .1 .0)
 
-put-rows-same-length-7 : (t : ℕ) → put-rows-lts.Need-same-length-7 (put-rows-claims t) (put-rows-at t) put-rows.Post
-put-rows-same-length-7 t c =
+put-rows-same-length-5 : (t : ℕ) → put-rows-lts.Need-same-length-5 (put-rows-claims t) (put-rows-at t) put-rows.Post
+put-rows-same-length-5 t c =
     length-set (c .before .before .before .before .choose .last .1 .0) (c .before .before .before .before .before .before .before .before .before .before .before .before .before .before .before .args .k - 1) (getD (c .before .before .before .before .before .before .before .before .before .before .before .before .before .before .before .args .path .now) (c .before .before .before .before .before .before .before .before .before .before .before .before .before .before .before .args .k - 1) 0) ∙ c .before .before .before .before .choose .kept .1 .0
 
-put-rows-same-length-8 : (t : ℕ) → put-rows-lts.Need-same-length-8 (put-rows-claims t) (put-rows-at t) put-rows.Post
-put-rows-same-length-8 t c = search needs
+put-rows-same-length-6 : (t : ℕ) → put-rows-lts.Need-same-length-6 (put-rows-claims t) (put-rows-at t) put-rows.Post
+put-rows-same-length-6 t c = search needs
 
-put-rows-returns-4 : (t : ℕ) → put-rows-lts.Need-returns-4 (put-rows-claims t) (put-rows-at t) put-rows.Post
-put-rows-returns-4 t c =
+put-rows-returns-3 : (t : ℕ) → put-rows-lts.Need-returns-3 (put-rows-claims t) (put-rows-at t) put-rows.Post
+put-rows-returns-3 t c =
     let a = c .before .before .before .before .before .before .before .before .before .before .before .before .before .before .before .args in
     let h = c .before .before .before .before .before .before .before .before .before .before .before .before .before .before .before .pre .1 in
     let q = c .before .before .before .before .choose in
-    (rows-chosen (a .arities .now) (a .path .now) (a .alts .now) (a .depth) (a .k) (a .n) (a .written) (a .rows) h (omega (arith, c .before .before .before .before .before .before .before .before .before .before .if1 .left)) (a .out .now) (q .result) (q .last .1 .1 .1 .1 .1 .1 .0) (c .before .before .before .before .before .before .before .if3 .left) (q .ensures .0), restored (a .path .now) (a .k - 1) (getD (a .path .now) (a .k - 1) 0) (q .last .1 .0) (q .ensures .1) refl)
+    (rows-chosen (a .arities .now) (a .path .now) (a .alts .now) (a .depth) (a .k) (a .n) (a .written) (a .rows) h (omega (arith, c .before .before .before .before .before .before .before .before .before .before .if1 .left)) (a .out .now) (q .result) (q .last .1 .1 .1 .1 .1 .1 .0) (c .before .before .before .before .before .before .before .if2 .left) (q .ensures .0), restored (a .path .now) (a .k - 1) (getD (a .path .now) (a .k - 1) 0) (q .last .1 .0) (q .ensures .1) refl)
 
 pub +choose+put-rows-spec : {M : Type 1} → statement M
 +choose+put-rows-spec = close μ-choose μ-put-rows (λ t. choose-lts.spec (choose-claims t)
@@ -284,25 +272,22 @@ pub +choose+put-rows-spec : {M : Type 1} → statement M
     (put-rows-at t)
     put-rows.Post
     (put-rows-put-row-requires t)
+    (put-rows-fit-requires t)
     (put-rows-same-length t)
     (put-rows-same-length-2 t)
     (put-rows-returns t)
-    (put-rows-add-t21 t)
-    (put-rows-same-length-3 t)
-    (put-rows-same-length-4 t)
-    (put-rows-returns-2 t)
     (put-rows-sub-j t)
     (put-rows-mul-b t)
     (put-rows-slice-read-b t)
     (put-rows-mul-rest t)
     (put-rows-shared-slice-read-rest t)
     (put-rows-put-rows-requires t)
-    (put-rows-same-length-5 t)
-    (put-rows-same-length-6 t)
-    (put-rows-returns-3 t)
+    (put-rows-same-length-3 t)
+    (put-rows-same-length-4 t)
+    (put-rows-returns-2 t)
     (put-rows-choose-requires t)
     (put-rows-mul-path t)
     (put-rows-slice-write-path t)
-    (put-rows-same-length-7 t)
-    (put-rows-same-length-8 t)
-    (put-rows-returns-4 t)
+    (put-rows-same-length-5 t)
+    (put-rows-same-length-6 t)
+    (put-rows-returns-3 t)

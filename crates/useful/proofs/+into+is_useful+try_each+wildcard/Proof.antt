@@ -1,10 +1,12 @@
 -- The cycle of `is_useful` meets its contracts: each call is ready for its work, the measure falls, and each answer is what the limits make of the definition.
-use Rattle.useful.specs.declared.Verdict.the-variants.{Done}
+use Rattle.outcomes.specs.declared.Verdict.the-variants.{Done}
 use Rattle.useful.proofs.Calls.{height, work-kept, into-length, into-ready, into-falls, into-walked, each-none, each-into-falls, each-work, each-low, each-falls, each-over, each-yes, each-no, wild-work, wild-into-falls, wild-each-falls, wild-into, wild-each, useful-falls, useful-invented, row-some, row-split, useful-wild, useful-own, useful-own-falls}
 use Rattle.matrix.proofs.Specialised.{matrix-length, steady, few-places}
-use Rattle.matrix.proofs.Seen.{listed-next, seen-whole}
-use Rattle.useful.proofs.Returns.{is-cells, is-calls, is-none, is-zero, is-wild, is-own}
-use Rattle.useful.proofs.Turns.{row-suc, full-b}
+use Rattle.matrix.proofs.Seen.{listed-next}
+use Rattle.ctors.proofs.Found.{complete-seen}
+use Rattle.outcomes.proofs.Tests.{entered}
+use Rattle.useful.proofs.Returns.{is-past, is-none, is-zero, is-wild, is-own}
+use Rattle.useful.proofs.Turns.{row-suc}
 use Rattle.matrix.proofs.Arities.{arity-byte}
 use Rattle.useful.specs.Ready.{newRow}
 use Rattle.matrix.specs.Places.{Listed, headAt}
@@ -18,7 +20,7 @@ use native.Mathlib.Omega.{arith}
 use native.Mathlib.Nat.{lt-of-le-of-lt, mul-le-mul}
 use mathlib.Core.List.{List, _∷_, map}
 use mathlib.Core.Path.{_≡_, refl, sym, ap, subst, _∙_}
-use Prim.Native.Nat.{ℕ, _+_, _-_, _/_, _≤_, _<_}
+use Prim.Native.Nat.{ℕ, _+_, _*_, _-_, _/_, _≤_, _<_}
 use borrow.Fn.Kinds.{In}
 use borrow.Fn.PlainCycle.{Measures, is, falls, and}
 use Rattle.useful.proofs.into.Reads as into
@@ -33,11 +35,11 @@ use Rattle.useful.proofs.+into+is_useful+try_each+wildcard.Lts-try_each
 use Rattle.useful.proofs.wildcard.Reads as wildcard
 use Rattle.useful.proofs.wildcard.Kinds as wildcard-kinds
 use Rattle.useful.proofs.+into+is_useful+try_each+wildcard.Lts-wildcard as wildcard-lts
-use Rattle.column.proofs.count.Reads as count-reads
 use Rattle.matrix.proofs.arity.Reads as arity-reads
 use Rattle.matrix.proofs.specialize.Reads as specialize-reads
-use Rattle.useful.proofs.complete.Reads as complete-reads
-use Rattle.useful.proofs.leaf.Reads as leaf-reads
+use Rattle.ctors.proofs.collect_ctors.Reads as collect-ctors-reads
+use Rattle.outcomes.proofs.over.Reads as over-reads
+use Rattle.outcomes.proofs.leaf.Reads as leaf-reads
 use Rattle.useful.proofs.+into+is_useful+try_each+wildcard.{statement}
 use Rattle.useful.proofs.+into+is_useful+try_each+wildcard.Tie.{close}
 
@@ -85,13 +87,13 @@ abbrev into-claims : ℕ → into-lts.Claims
 into-claims t = (specialize-reads.Asked, specialize-reads.Learnt, arity-reads.Asked, arity-reads.Learnt, is-useful-below t, is-useful.Post)
 
 abbrev is-useful-claims : ℕ → is-useful-lts.Claims
-is-useful-claims t = (leaf-reads.Asked, leaf-reads.Learnt, wildcard-below t, wildcard.Post, into-below t, into.Post)
+is-useful-claims t = (over-reads.Asked, over-reads.Learnt, leaf-reads.Asked, leaf-reads.Learnt, wildcard-below t, wildcard.Post, into-below t, into.Post)
 
 abbrev try-each-claims : ℕ → try-each-lts.Claims
 try-each-claims t = (arity-reads.Asked, arity-reads.Learnt, into-below t, into.Post, try-each-below t, try-each.Post)
 
 abbrev wildcard-claims : ℕ → wildcard-lts.Claims
-wildcard-claims t = (complete-reads.Asked, complete-reads.Learnt, into-below t, into.Post, count-reads.Asked, count-reads.Learnt, try-each-below t, try-each.Post)
+wildcard-claims t = (collect-ctors-reads.Asked, collect-ctors-reads.Learnt, into-below t, into.Post, try-each-below t, try-each.Post)
 
 into-specialize-requires : (t : ℕ) → into-lts.Need-specialize-requires (into-claims t) (into-at t) into.Post
 into-specialize-requires t c κs =
@@ -170,106 +172,116 @@ is-useful-mul-cells t c =
     let r = c .before .before .before .before .before .before .before .pre .1 in
     record { fits = lt-of-le-of-lt (mul-le-mul {n₁ = a .rows + 1} {m₁ = a .n} {n₂ = 65} {m₂ = 16640} (omega (arith, r .low)) (omega (arith, r .wide))) (lit< tt) }
 
+is-useful-over-requires : (t : ℕ) → is-useful-lts.Need-over-requires (is-useful-claims t) (is-useful-at t) is-useful.Post
+is-useful-over-requires t c κs =
+    tt
+
 is-useful-returns : (t : ℕ) → is-useful-lts.Need-returns (is-useful-claims t) (is-useful-at t) is-useful.Post
 is-useful-returns t c =
-    let a = c .before .before .before .before .before .before .before .before .args in
-    let r = c .before .before .before .before .before .before .before .before .pre .1 in
-    let low : (h : ℕ) → arOf (a .arities .now) h ≤ 255 = arity-byte (a .arities .now) (λ i. omega (arith, c .before .before .before .shared-slice-known5 .given i)) in
-    let m = matrix (a .nodes .now) (a .left .now) (a .n) (take (a .rows) (a .s .now)) in
-    let v = newRow (a .w) (a .row .now) in
-    let len : length m ≡ a .rows = matrix-length (a .nodes .now) (a .left .now) (a .n) (a .s .now) (a .rows) (omega (arith, r .space)) in
-    record { kept = refl; is = is-cells (a .bytes .now) (a .counts .now) (a .arities .now) low (a .n) m v (a .calls) (a .room) (a .rows) len (c .if1 .taken) }
-
-is-useful-returns-2 : (t : ℕ) → is-useful-lts.Need-returns-2 (is-useful-claims t) (is-useful-at t) is-useful.Post
-is-useful-returns-2 t c =
     let a = c .before .before .before .before .before .before .before .before .before .args in
     let r = c .before .before .before .before .before .before .before .before .before .pre .1 in
     let low : (h : ℕ) → arOf (a .arities .now) h ≤ 255 = arity-byte (a .arities .now) (λ i. omega (arith, c .before .before .before .before .shared-slice-known5 .given i)) in
     let m = matrix (a .nodes .now) (a .left .now) (a .n) (take (a .rows) (a .s .now)) in
     let v = newRow (a .w) (a .row .now) in
     let len : length m ≡ a .rows = matrix-length (a .nodes .now) (a .left .now) (a .n) (a .s .now) (a .rows) (omega (arith, r .space)) in
-    record { kept = refl; is = is-calls (a .bytes .now) (a .counts .now) (a .arities .now) low (a .n) m v (a .calls) (a .room) (a .rows) len (c .if2 .taken) }
+    record { kept = refl; is = is-past (a .bytes .now) (a .counts .now) (a .arities .now) low (a .n) m v (a .calls) (a .room) (a .rows) len (c .before .over .result) (c .before .over .ensures) (c .if1 .taken) }
 
 is-useful-leaf-requires : (t : ℕ) → is-useful-lts.Need-leaf-requires (is-useful-claims t) (is-useful-at t) is-useful.Post
 is-useful-leaf-requires t c κs =
-    c .before .if2 .left
+    let a = c .before .before .before .before .before .before .before .before .before .before .args in
+    let g = entered (a .calls) ((a .rows + 1) * a .n) (a .room) (c .before .before .over .result) (c .before .before .over .ensures) (c .before .if1 .left) in
+    g .few
 
-is-useful-returns-3 : (t : ℕ) → is-useful-lts.Need-returns-3 (is-useful-claims t) (is-useful-at t) is-useful.Post
-is-useful-returns-3 t c =
+is-useful-returns-2 : (t : ℕ) → is-useful-lts.Need-returns-2 (is-useful-claims t) (is-useful-at t) is-useful.Post
+is-useful-returns-2 t c =
     let a = c .before .before .before .before .before .before .before .before .before .before .before .args in
+    let g = entered (a .calls) ((a .rows + 1) * a .n) (a .room) (c .before .before .before .over .result) (c .before .before .before .over .ensures) (c .before .before .if1 .left) in
     let r = c .before .before .before .before .before .before .before .before .before .before .before .pre .1 in
     let low : (h : ℕ) → arOf (a .arities .now) h ≤ 255 = arity-byte (a .arities .now) (λ i. omega (arith, c .before .before .before .before .before .before .shared-slice-known5 .given i)) in
     let m = matrix (a .nodes .now) (a .left .now) (a .n) (take (a .rows) (a .s .now)) in
     let v = newRow (a .w) (a .row .now) in
     let len : length m ≡ a .rows = matrix-length (a .nodes .now) (a .left .now) (a .n) (a .s .now) (a .rows) (omega (arith, r .space)) in
-    record { kept = refl; is = c .leaf .ensures ∙ is-none (a .bytes .now) (a .counts .now) (a .arities .now) low (a .n) m v (a .calls) (a .room) (a .rows) len (c .before .before .before .if1 .left) (c .before .before .if2 .left) (c .before .if3 .taken) }
+    record { kept = refl; is = c .leaf .ensures ∙ is-none (a .bytes .now) (a .counts .now) (a .arities .now) low (a .n) m v (a .calls) (a .room) (a .rows) len (g .fits) (g .few) (c .before .if2 .taken) }
 
 is-useful-leaf-requires-2 : (t : ℕ) → is-useful-lts.Need-leaf-requires-2 (is-useful-claims t) (is-useful-at t) is-useful.Post
 is-useful-leaf-requires-2 t c κs =
-    c .before .before .if2 .left
+    let a = c .before .before .before .before .before .before .before .before .before .before .before .args in
+    let g = entered (a .calls) ((a .rows + 1) * a .n) (a .room) (c .before .before .before .over .result) (c .before .before .before .over .ensures) (c .before .before .if1 .left) in
+    g .few
 
-is-useful-returns-4 : (t : ℕ) → is-useful-lts.Need-returns-4 (is-useful-claims t) (is-useful-at t) is-useful.Post
-is-useful-returns-4 t c =
+is-useful-returns-3 : (t : ℕ) → is-useful-lts.Need-returns-3 (is-useful-claims t) (is-useful-at t) is-useful.Post
+is-useful-returns-3 t c =
     let a = c .before .before .before .before .before .before .before .before .before .before .before .before .args in
+    let g = entered (a .calls) ((a .rows + 1) * a .n) (a .room) (c .before .before .before .before .over .result) (c .before .before .before .before .over .ensures) (c .before .before .before .if1 .left) in
     let r = c .before .before .before .before .before .before .before .before .before .before .before .before .pre .1 in
     let low : (h : ℕ) → arOf (a .arities .now) h ≤ 255 = arity-byte (a .arities .now) (λ i. omega (arith, c .before .before .before .before .before .before .before .shared-slice-known5 .given i)) in
     let m = matrix (a .nodes .now) (a .left .now) (a .n) (take (a .rows) (a .s .now)) in
     let v = newRow (a .w) (a .row .now) in
     let len : length m ≡ a .rows = matrix-length (a .nodes .now) (a .left .now) (a .n) (a .s .now) (a .rows) (omega (arith, r .space)) in
-    let some : 0 < a .rows = omega (arith, c .before .before .if3 .left) in
-    record { kept = refl; is = c .leaf2 .ensures ∙ is-zero (a .bytes .now) (a .counts .now) (a .arities .now) low (a .n) m v (a .calls) (a .room) (a .rows) len (c .before .before .before .before .if1 .left) (c .before .before .before .if2 .left) some (c .before .if4 .taken) }
+    let some : 0 < a .rows = omega (arith, c .before .before .if2 .left) in
+    record { kept = refl; is = c .leaf2 .ensures ∙ is-zero (a .bytes .now) (a .counts .now) (a .arities .now) low (a .n) m v (a .calls) (a .room) (a .rows) len (g .fits) (g .few) some (c .before .if3 .taken) }
 
 is-useful-sub-wildcard : (t : ℕ) → is-useful-lts.Need-sub-wildcard (is-useful-claims t) (is-useful-at t) is-useful.Post
 is-useful-sub-wildcard t c =
-    omega (arith, c .if5 .taken)
+    omega (arith, c .if4 .taken)
 
 is-useful-add-wildcard : (t : ℕ) → is-useful-lts.Need-add-wildcard (is-useful-claims t) (is-useful-at t) is-useful.Post
 is-useful-add-wildcard t c =
-    omega (arith, c .before .before .before .before .if2 .left)
+    let a = c .before .before .before .before .before .before .before .before .before .before .before .before .before .args in
+    let g = entered (a .calls) ((a .rows + 1) * a .n) (a .room) (c .before .before .before .before .before .over .result) (c .before .before .before .before .before .over .ensures) (c .before .before .before .before .if1 .left) in
+    omega (arith, g .few)
+
+is-useful-sub-wildcard-2 : (t : ℕ) → is-useful-lts.Need-sub-wildcard-2 (is-useful-claims t) (is-useful-at t) is-useful.Post
+is-useful-sub-wildcard-2 t c =
+    let a = c .before .before .before .before .before .before .before .before .before .before .before .before .before .args in
+    let g = entered (a .calls) ((a .rows + 1) * a .n) (a .room) (c .before .before .before .before .before .over .result) (c .before .before .before .before .before .over .ensures) (c .before .before .before .before .if1 .left) in
+    g .fits
 
 is-useful-wildcard-requires : (t : ℕ) → is-useful-lts.Need-wildcard-requires (is-useful-claims t) (is-useful-at t) is-useful.Post
 is-useful-wildcard-requires t c κs =
     let a = c .before .before .before .before .before .before .before .before .before .before .before .before .before .args in
+    let g = entered (a .calls) ((a .rows + 1) * a .n) (a .room) (c .before .before .before .before .before .over .result) (c .before .before .before .before .before .over .ensures) (c .before .before .before .before .if1 .left) in
     let r = c .before .before .before .before .before .before .before .before .before .before .before .before .before .pre .1 in
-    let pos : 0 < a .n = omega (arith, c .before .before .if4 .left) in
-    (useful-falls (a .bytes .now) (a .nodes .now) (a .left .now) (a .counts .now) (a .arities .now) (a .row .now) (a .w) (a .n) (a .s .now) (a .rows) (a .room) r pos t (newRow (a .w - 1) (a .row .now)) (row-suc (a .w) (a .row .now) (c .before .if5 .taken)) (c .before .before .before .before .before .before .before .before .before .before .before .before .before .pre .0), (useful-invented (a .bytes .now) (a .nodes .now) (a .left .now) (a .counts .now) (a .arities .now) (a .row .now) (a .w) (a .n) (a .s .now) (a .rows) (a .room) r pos (c .before .if5 .taken) (c .before .before .before .before .before .if1 .left), omega (arith, c .before .before .before .before .if2 .left)))
+    let pos : 0 < a .n = omega (arith, c .before .before .if3 .left) in
+    (useful-falls (a .bytes .now) (a .nodes .now) (a .left .now) (a .counts .now) (a .arities .now) (a .row .now) (a .w) (a .n) (a .s .now) (a .rows) (a .room) r pos t (newRow (a .w - 1) (a .row .now)) (row-suc (a .w) (a .row .now) (c .before .if4 .taken)) (c .before .before .before .before .before .before .before .before .before .before .before .before .before .pre .0), (useful-invented (a .bytes .now) (a .nodes .now) (a .left .now) (a .counts .now) (a .arities .now) (a .row .now) (a .w) (a .n) (a .s .now) (a .rows) (a .room) r pos (c .before .if4 .taken) (g .fits), omega (arith, g .few)))
 
 is-useful-same-length : (t : ℕ) → is-useful-lts.Need-same-length (is-useful-claims t) (is-useful-at t) is-useful.Post
 is-useful-same-length t c =
     c .before .before .wildcard .kept .1 .1 .1 .1 .1 .1 .1 .1 .0
 
-is-useful-returns-5 : (t : ℕ) → is-useful-lts.Need-returns-5 (is-useful-claims t) (is-useful-at t) is-useful.Post
-is-useful-returns-5 t c =
+is-useful-returns-4 : (t : ℕ) → is-useful-lts.Need-returns-4 (is-useful-claims t) (is-useful-at t) is-useful.Post
+is-useful-returns-4 t c =
     let a = c .before .before .before .before .before .before .before .before .before .before .before .before .before .before .before .before .args in
+    let g = entered (a .calls) ((a .rows + 1) * a .n) (a .room) (c .before .before .before .before .before .before .before .before .over .result) (c .before .before .before .before .before .before .before .before .over .ensures) (c .before .before .before .before .before .before .before .if1 .left) in
     let r = c .before .before .before .before .before .before .before .before .before .before .before .before .before .before .before .before .pre .1 in
     let low : (h : ℕ) → arOf (a .arities .now) h ≤ 255 = arity-byte (a .arities .now) (λ i. omega (arith, c .before .before .before .before .before .before .before .before .before .before .before .shared-slice-known5 .given i)) in
     let m = matrix (a .nodes .now) (a .left .now) (a .n) (take (a .rows) (a .s .now)) in
     let v = newRow (a .w) (a .row .now) in
     let len : length m ≡ a .rows = matrix-length (a .nodes .now) (a .left .now) (a .n) (a .s .now) (a .rows) (omega (arith, r .space)) in
-    let pos : 0 < a .n = omega (arith, c .before .before .before .before .before .if4 .left) in
-    let some : 0 < a .rows = omega (arith, c .before .before .before .before .before .before .if3 .left) in
-    record { kept = c .before .before .wildcard .ensures .kept; is = is-wild (a .bytes .now) (a .counts .now) (a .arities .now) low (a .n) m v (a .calls) (a .room) (a .rows) len (c .before .before .before .before .before .before .before .before .if1 .left) (newRow (a .w - 1) (a .row .now)) (c .before .before .wildcard .result) some pos (row-suc (a .w) (a .row .now) (c .before .before .before .before .if5 .taken)) (c .before .before .wildcard .ensures .is) }
+    let pos : 0 < a .n = omega (arith, c .before .before .before .before .before .if3 .left) in
+    let some : 0 < a .rows = omega (arith, c .before .before .before .before .before .before .if2 .left) in
+    record { kept = c .before .before .wildcard .ensures .kept; is = is-wild (a .bytes .now) (a .counts .now) (a .arities .now) low (a .n) m v (a .calls) (a .room) (a .rows) len (g .fits) (newRow (a .w - 1) (a .row .now)) (c .before .before .wildcard .result) some pos (row-suc (a .w) (a .row .now) (c .before .before .before .before .if4 .taken)) (c .before .before .wildcard .ensures .is) }
 
 is-useful-shared-slice-read-h : (t : ℕ) → is-useful-lts.Need-shared-slice-read-h (is-useful-claims t) (is-useful-at t) is-useful.Post
 is-useful-shared-slice-read-h t c =
     let a = c .before .before .before .before .before .before .before .before .before .before .before .before .before .args in
     let r = c .before .before .before .before .before .before .before .before .before .before .before .before .before .pre .1 in
-    let pos : 0 < a .n = omega (arith, c .before .before .if4 .left) in
-    row-some (a .bytes .now) (a .nodes .now) (a .left .now) (a .counts .now) (a .arities .now) (a .row .now) (a .w) (a .n) (a .s .now) (a .rows) (a .room) r pos (c .before .if5 .left)
+    let pos : 0 < a .n = omega (arith, c .before .before .if3 .left) in
+    row-some (a .bytes .now) (a .nodes .now) (a .left .now) (a .counts .now) (a .arities .now) (a .row .now) (a .w) (a .n) (a .s .now) (a .rows) (a .room) r pos (c .before .if4 .left)
 
-is-useful-sub-wildcard-2 : (t : ℕ) → is-useful-lts.Need-sub-wildcard-2 (is-useful-claims t) (is-useful-at t) is-useful.Post
-is-useful-sub-wildcard-2 t c =
+is-useful-sub-wildcard-3 : (t : ℕ) → is-useful-lts.Need-sub-wildcard-3 (is-useful-claims t) (is-useful-at t) is-useful.Post
+is-useful-sub-wildcard-3 t c =
     let a = c .before .before .before .before .before .before .before .before .before .before .before .before .before .before .args in
     let r = c .before .before .before .before .before .before .before .before .before .before .before .before .before .before .pre .1 in
-    let pos : 0 < a .n = omega (arith, c .before .before .before .if4 .left) in
-    omega (arith, row-some (a .bytes .now) (a .nodes .now) (a .left .now) (a .counts .now) (a .arities .now) (a .row .now) (a .w) (a .n) (a .s .now) (a .rows) (a .room) r pos (c .before .before .if5 .left))
+    let pos : 0 < a .n = omega (arith, c .before .before .before .if3 .left) in
+    omega (arith, row-some (a .bytes .now) (a .nodes .now) (a .left .now) (a .counts .now) (a .arities .now) (a .row .now) (a .w) (a .n) (a .s .now) (a .rows) (a .room) r pos (c .before .before .if4 .left))
 
 is-useful-part-wildcard-start : (t : ℕ) → is-useful-lts.Need-part-wildcard-start (is-useful-claims t) (is-useful-at t) is-useful.Post
 is-useful-part-wildcard-start t c =
     let a = c .before .before .before .before .before .before .before .before .before .before .before .before .before .before .args in
     let r = c .before .before .before .before .before .before .before .before .before .before .before .before .before .before .pre .1 in
-    let pos : 0 < a .n = omega (arith, c .before .before .before .if4 .left) in
-    omega (arith, row-some (a .bytes .now) (a .nodes .now) (a .left .now) (a .counts .now) (a .arities .now) (a .row .now) (a .w) (a .n) (a .s .now) (a .rows) (a .room) r pos (c .before .before .if5 .left))
+    let pos : 0 < a .n = omega (arith, c .before .before .before .if3 .left) in
+    omega (arith, row-some (a .bytes .now) (a .nodes .now) (a .left .now) (a .counts .now) (a .arities .now) (a .row .now) (a .w) (a .n) (a .s .now) (a .rows) (a .room) r pos (c .before .before .if4 .left))
 
 is-useful-part-wildcard-end : (t : ℕ) → is-useful-lts.Need-part-wildcard-end (is-useful-claims t) (is-useful-at t) is-useful.Post
 is-useful-part-wildcard-end t c =
@@ -277,44 +289,54 @@ is-useful-part-wildcard-end t c =
 
 is-useful-add-wildcard-2 : (t : ℕ) → is-useful-lts.Need-add-wildcard-2 (is-useful-claims t) (is-useful-at t) is-useful.Post
 is-useful-add-wildcard-2 t c =
-    omega (arith, c .before .before .before .before .before .before .before .if2 .left)
+    let a = c .before .before .before .before .before .before .before .before .before .before .before .before .before .before .before .before .args in
+    let g = entered (a .calls) ((a .rows + 1) * a .n) (a .room) (c .before .before .before .before .before .before .before .before .over .result) (c .before .before .before .before .before .before .before .before .over .ensures) (c .before .before .before .before .before .before .before .if1 .left) in
+    omega (arith, g .few)
+
+is-useful-sub-wildcard-4 : (t : ℕ) → is-useful-lts.Need-sub-wildcard-4 (is-useful-claims t) (is-useful-at t) is-useful.Post
+is-useful-sub-wildcard-4 t c =
+    let a = c .before .before .before .before .before .before .before .before .before .before .before .before .before .before .before .before .args in
+    let g = entered (a .calls) ((a .rows + 1) * a .n) (a .room) (c .before .before .before .before .before .before .before .before .over .result) (c .before .before .before .before .before .before .before .before .over .ensures) (c .before .before .before .before .before .before .before .if1 .left) in
+    g .fits
 
 is-useful-wildcard-requires-2 : (t : ℕ) → is-useful-lts.Need-wildcard-requires-2 (is-useful-claims t) (is-useful-at t) is-useful.Post
 is-useful-wildcard-requires-2 t c κs =
     let a = c .before .before .before .before .before .before .before .before .before .before .before .before .before .before .before .before .args in
+    let g = entered (a .calls) ((a .rows + 1) * a .n) (a .room) (c .before .before .before .before .before .before .before .before .over .result) (c .before .before .before .before .before .before .before .before .over .ensures) (c .before .before .before .before .before .before .before .if1 .left) in
     let r = c .before .before .before .before .before .before .before .before .before .before .before .before .before .before .before .before .pre .1 in
-    let pos : 0 < a .n = omega (arith, c .before .before .before .before .before .if4 .left) in
-    (useful-falls (a .bytes .now) (a .nodes .now) (a .left .now) (a .counts .now) (a .arities .now) (a .row .now) (a .w) (a .n) (a .s .now) (a .rows) (a .room) r pos t (take (length (a .row .now) - 1) (drop 1 (a .row .now))) (row-split (a .bytes .now) (a .nodes .now) (a .left .now) (a .counts .now) (a .arities .now) (a .row .now) (a .w) (a .n) (a .s .now) (a .rows) (a .room) r pos (c .before .before .before .before .if5 .left) ∙ ap (λ (h : ℕ). h ∷ take (length (a .row .now) - 1) (drop 1 (a .row .now))) (c .before .before .if6 .taken)) (c .before .before .before .before .before .before .before .before .before .before .before .before .before .before .before .before .pre .0), (useful-wild (a .bytes .now) (a .nodes .now) (a .left .now) (a .counts .now) (a .arities .now) (a .row .now) (a .w) (a .n) (a .s .now) (a .rows) (a .room) r pos (c .before .before .before .before .if5 .left) (c .before .before .if6 .taken) (c .before .before .before .before .before .before .before .before .if1 .left), omega (arith, c .before .before .before .before .before .before .before .if2 .left)))
+    let pos : 0 < a .n = omega (arith, c .before .before .before .before .before .if3 .left) in
+    (useful-falls (a .bytes .now) (a .nodes .now) (a .left .now) (a .counts .now) (a .arities .now) (a .row .now) (a .w) (a .n) (a .s .now) (a .rows) (a .room) r pos t (take (length (a .row .now) - 1) (drop 1 (a .row .now))) (row-split (a .bytes .now) (a .nodes .now) (a .left .now) (a .counts .now) (a .arities .now) (a .row .now) (a .w) (a .n) (a .s .now) (a .rows) (a .room) r pos (c .before .before .before .before .if4 .left) ∙ ap (λ (h : ℕ). h ∷ take (length (a .row .now) - 1) (drop 1 (a .row .now))) (c .before .before .if5 .taken)) (c .before .before .before .before .before .before .before .before .before .before .before .before .before .before .before .before .pre .0), (useful-wild (a .bytes .now) (a .nodes .now) (a .left .now) (a .counts .now) (a .arities .now) (a .row .now) (a .w) (a .n) (a .s .now) (a .rows) (a .room) r pos (c .before .before .before .before .if4 .left) (c .before .before .if5 .taken) (g .fits), omega (arith, g .few)))
 
 is-useful-same-length-2 : (t : ℕ) → is-useful-lts.Need-same-length-2 (is-useful-claims t) (is-useful-at t) is-useful.Post
 is-useful-same-length-2 t c =
     c .before .before .wildcard2 .kept .1 .1 .1 .1 .1 .1 .1 .1 .0
 
-is-useful-returns-6 : (t : ℕ) → is-useful-lts.Need-returns-6 (is-useful-claims t) (is-useful-at t) is-useful.Post
-is-useful-returns-6 t c =
+is-useful-returns-5 : (t : ℕ) → is-useful-lts.Need-returns-5 (is-useful-claims t) (is-useful-at t) is-useful.Post
+is-useful-returns-5 t c =
     let a = c .before .before .before .before .before .before .before .before .before .before .before .before .before .before .before .before .before .before .before .args in
+    let g = entered (a .calls) ((a .rows + 1) * a .n) (a .room) (c .before .before .before .before .before .before .before .before .before .before .before .over .result) (c .before .before .before .before .before .before .before .before .before .before .before .over .ensures) (c .before .before .before .before .before .before .before .before .before .before .if1 .left) in
     let r = c .before .before .before .before .before .before .before .before .before .before .before .before .before .before .before .before .before .before .before .pre .1 in
     let low : (h : ℕ) → arOf (a .arities .now) h ≤ 255 = arity-byte (a .arities .now) (λ i. omega (arith, c .before .before .before .before .before .before .before .before .before .before .before .before .before .before .shared-slice-known5 .given i)) in
     let m = matrix (a .nodes .now) (a .left .now) (a .n) (take (a .rows) (a .s .now)) in
     let v = newRow (a .w) (a .row .now) in
     let len : length m ≡ a .rows = matrix-length (a .nodes .now) (a .left .now) (a .n) (a .s .now) (a .rows) (omega (arith, r .space)) in
-    let pos : 0 < a .n = omega (arith, c .before .before .before .before .before .before .before .before .if4 .left) in
-    let some : 0 < a .rows = omega (arith, c .before .before .before .before .before .before .before .before .before .if3 .left) in
-    record { kept = c .before .before .wildcard2 .ensures .kept; is = is-wild (a .bytes .now) (a .counts .now) (a .arities .now) low (a .n) m v (a .calls) (a .room) (a .rows) len (c .before .before .before .before .before .before .before .before .before .before .before .if1 .left) (take (length (a .row .now) - 1) (drop 1 (a .row .now))) (c .before .before .wildcard2 .result) some pos (row-split (a .bytes .now) (a .nodes .now) (a .left .now) (a .counts .now) (a .arities .now) (a .row .now) (a .w) (a .n) (a .s .now) (a .rows) (a .room) r pos (c .before .before .before .before .before .before .before .if5 .left) ∙ ap (λ (h : ℕ). h ∷ take (length (a .row .now) - 1) (drop 1 (a .row .now))) (c .before .before .before .before .before .if6 .taken)) (c .before .before .wildcard2 .ensures .is) }
+    let pos : 0 < a .n = omega (arith, c .before .before .before .before .before .before .before .before .if3 .left) in
+    let some : 0 < a .rows = omega (arith, c .before .before .before .before .before .before .before .before .before .if2 .left) in
+    record { kept = c .before .before .wildcard2 .ensures .kept; is = is-wild (a .bytes .now) (a .counts .now) (a .arities .now) low (a .n) m v (a .calls) (a .room) (a .rows) len (g .fits) (take (length (a .row .now) - 1) (drop 1 (a .row .now))) (c .before .before .wildcard2 .result) some pos (row-split (a .bytes .now) (a .nodes .now) (a .left .now) (a .counts .now) (a .arities .now) (a .row .now) (a .w) (a .n) (a .s .now) (a .rows) (a .room) r pos (c .before .before .before .before .before .before .before .if4 .left) ∙ ap (λ (h : ℕ). h ∷ take (length (a .row .now) - 1) (drop 1 (a .row .now))) (c .before .before .before .before .before .if5 .taken)) (c .before .before .wildcard2 .ensures .is) }
 
 is-useful-sub-into : (t : ℕ) → is-useful-lts.Need-sub-into (is-useful-claims t) (is-useful-at t) is-useful.Post
 is-useful-sub-into t c =
     let a = c .before .before .before .before .before .before .before .before .before .before .before .before .before .before .args in
     let r = c .before .before .before .before .before .before .before .before .before .before .before .before .before .before .pre .1 in
-    let pos : 0 < a .n = omega (arith, c .before .before .before .if4 .left) in
-    omega (arith, row-some (a .bytes .now) (a .nodes .now) (a .left .now) (a .counts .now) (a .arities .now) (a .row .now) (a .w) (a .n) (a .s .now) (a .rows) (a .room) r pos (c .before .before .if5 .left))
+    let pos : 0 < a .n = omega (arith, c .before .before .before .if3 .left) in
+    omega (arith, row-some (a .bytes .now) (a .nodes .now) (a .left .now) (a .counts .now) (a .arities .now) (a .row .now) (a .w) (a .n) (a .s .now) (a .rows) (a .room) r pos (c .before .before .if4 .left))
 
 is-useful-part-into-start : (t : ℕ) → is-useful-lts.Need-part-into-start (is-useful-claims t) (is-useful-at t) is-useful.Post
 is-useful-part-into-start t c =
     let a = c .before .before .before .before .before .before .before .before .before .before .before .before .before .before .args in
     let r = c .before .before .before .before .before .before .before .before .before .before .before .before .before .before .pre .1 in
-    let pos : 0 < a .n = omega (arith, c .before .before .before .if4 .left) in
-    omega (arith, row-some (a .bytes .now) (a .nodes .now) (a .left .now) (a .counts .now) (a .arities .now) (a .row .now) (a .w) (a .n) (a .s .now) (a .rows) (a .room) r pos (c .before .before .if5 .left))
+    let pos : 0 < a .n = omega (arith, c .before .before .before .if3 .left) in
+    omega (arith, row-some (a .bytes .now) (a .nodes .now) (a .left .now) (a .counts .now) (a .arities .now) (a .row .now) (a .w) (a .n) (a .s .now) (a .rows) (a .room) r pos (c .before .before .if4 .left))
 
 is-useful-part-into-end : (t : ℕ) → is-useful-lts.Need-part-into-end (is-useful-claims t) (is-useful-at t) is-useful.Post
 is-useful-part-into-end t c =
@@ -322,31 +344,41 @@ is-useful-part-into-end t c =
 
 is-useful-add-into : (t : ℕ) → is-useful-lts.Need-add-into (is-useful-claims t) (is-useful-at t) is-useful.Post
 is-useful-add-into t c =
-    omega (arith, c .before .before .before .before .before .before .before .if2 .left)
+    let a = c .before .before .before .before .before .before .before .before .before .before .before .before .before .before .before .before .args in
+    let g = entered (a .calls) ((a .rows + 1) * a .n) (a .room) (c .before .before .before .before .before .before .before .before .over .result) (c .before .before .before .before .before .before .before .before .over .ensures) (c .before .before .before .before .before .before .before .if1 .left) in
+    omega (arith, g .few)
+
+is-useful-sub-into-2 : (t : ℕ) → is-useful-lts.Need-sub-into-2 (is-useful-claims t) (is-useful-at t) is-useful.Post
+is-useful-sub-into-2 t c =
+    let a = c .before .before .before .before .before .before .before .before .before .before .before .before .before .before .before .before .args in
+    let g = entered (a .calls) ((a .rows + 1) * a .n) (a .room) (c .before .before .before .before .before .before .before .before .over .result) (c .before .before .before .before .before .before .before .before .over .ensures) (c .before .before .before .before .before .before .before .if1 .left) in
+    g .fits
 
 is-useful-into-requires : (t : ℕ) → is-useful-lts.Need-into-requires (is-useful-claims t) (is-useful-at t) is-useful.Post
 is-useful-into-requires t c κs =
     let a = c .before .before .before .before .before .before .before .before .before .before .before .before .before .before .before .before .args in
+    let g = entered (a .calls) ((a .rows + 1) * a .n) (a .room) (c .before .before .before .before .before .before .before .before .over .result) (c .before .before .before .before .before .before .before .before .over .ensures) (c .before .before .before .before .before .before .before .if1 .left) in
     let r = c .before .before .before .before .before .before .before .before .before .before .before .before .before .before .before .before .pre .1 in
     let low : (h : ℕ) → arOf (a .arities .now) h ≤ 255 = arity-byte (a .arities .now) (λ i. omega (arith, c .before .before .before .before .before .before .before .before .before .before .before .shared-slice-known5 .given i)) in
-    let pos : 0 < a .n = omega (arith, c .before .before .before .before .before .if4 .left) in
-    (useful-own-falls (a .bytes .now) (a .nodes .now) (a .left .now) (a .counts .now) (a .arities .now) (a .row .now) (a .w) (a .n) (a .s .now) (a .rows) (a .room) r pos (c .before .before .before .before .if5 .left) t (low (getD (a .row .now) 0 0)) (c .before .before .if6 .left) (c .before .before .before .before .before .before .before .before .before .before .before .before .before .before .before .before .pre .0), useful-own (a .bytes .now) (a .nodes .now) (a .left .now) (a .counts .now) (a .arities .now) (a .row .now) (a .w) (a .n) (a .s .now) (a .rows) (a .room) r pos (c .before .before .before .before .if5 .left) (c .before .before .before .before .before .before .before .before .if1 .left))
+    let pos : 0 < a .n = omega (arith, c .before .before .before .before .before .if3 .left) in
+    (useful-own-falls (a .bytes .now) (a .nodes .now) (a .left .now) (a .counts .now) (a .arities .now) (a .row .now) (a .w) (a .n) (a .s .now) (a .rows) (a .room) r pos (c .before .before .before .before .if4 .left) t (low (getD (a .row .now) 0 0)) (c .before .before .if5 .left) (c .before .before .before .before .before .before .before .before .before .before .before .before .before .before .before .before .pre .0), useful-own (a .bytes .now) (a .nodes .now) (a .left .now) (a .counts .now) (a .arities .now) (a .row .now) (a .w) (a .n) (a .s .now) (a .rows) (a .room) r pos (c .before .before .before .before .if4 .left) (g .fits))
 
 is-useful-same-length-3 : (t : ℕ) → is-useful-lts.Need-same-length-3 (is-useful-claims t) (is-useful-at t) is-useful.Post
 is-useful-same-length-3 t c =
     c .before .before .into .kept .1 .1 .1 .1 .1 .1 .1 .1 .1 .0
 
-is-useful-returns-7 : (t : ℕ) → is-useful-lts.Need-returns-7 (is-useful-claims t) (is-useful-at t) is-useful.Post
-is-useful-returns-7 t c =
+is-useful-returns-6 : (t : ℕ) → is-useful-lts.Need-returns-6 (is-useful-claims t) (is-useful-at t) is-useful.Post
+is-useful-returns-6 t c =
     let a = c .before .before .before .before .before .before .before .before .before .before .before .before .before .before .before .before .before .before .before .args in
+    let g = entered (a .calls) ((a .rows + 1) * a .n) (a .room) (c .before .before .before .before .before .before .before .before .before .before .before .over .result) (c .before .before .before .before .before .before .before .before .before .before .before .over .ensures) (c .before .before .before .before .before .before .before .before .before .before .if1 .left) in
     let r = c .before .before .before .before .before .before .before .before .before .before .before .before .before .before .before .before .before .before .before .pre .1 in
     let low : (h : ℕ) → arOf (a .arities .now) h ≤ 255 = arity-byte (a .arities .now) (λ i. omega (arith, c .before .before .before .before .before .before .before .before .before .before .before .before .before .before .shared-slice-known5 .given i)) in
     let m = matrix (a .nodes .now) (a .left .now) (a .n) (take (a .rows) (a .s .now)) in
     let v = newRow (a .w) (a .row .now) in
     let len : length m ≡ a .rows = matrix-length (a .nodes .now) (a .left .now) (a .n) (a .s .now) (a .rows) (omega (arith, r .space)) in
-    let pos : 0 < a .n = omega (arith, c .before .before .before .before .before .before .before .before .if4 .left) in
-    let some : 0 < a .rows = omega (arith, c .before .before .before .before .before .before .before .before .before .if3 .left) in
-    record { kept = c .before .before .into .ensures .kept; is = is-own (a .bytes .now) (a .counts .now) (a .arities .now) low (a .n) m v (a .calls) (a .room) (a .rows) len (c .before .before .before .before .before .before .before .before .before .before .before .if1 .left) (take (length (a .row .now) - 1) (drop 1 (a .row .now))) (getD (a .row .now) 0 0) (c .before .before .into .result) some pos (row-split (a .bytes .now) (a .nodes .now) (a .left .now) (a .counts .now) (a .arities .now) (a .row .now) (a .w) (a .n) (a .s .now) (a .rows) (a .room) r pos (c .before .before .before .before .before .before .before .if5 .left)) (c .before .before .before .before .before .if6 .left) (c .before .before .into .ensures .is) }
+    let pos : 0 < a .n = omega (arith, c .before .before .before .before .before .before .before .before .if3 .left) in
+    let some : 0 < a .rows = omega (arith, c .before .before .before .before .before .before .before .before .before .if2 .left) in
+    record { kept = c .before .before .into .ensures .kept; is = is-own (a .bytes .now) (a .counts .now) (a .arities .now) low (a .n) m v (a .calls) (a .room) (a .rows) len (g .fits) (take (length (a .row .now) - 1) (drop 1 (a .row .now))) (getD (a .row .now) 0 0) (c .before .before .into .result) some pos (row-split (a .bytes .now) (a .nodes .now) (a .left .now) (a .counts .now) (a .arities .now) (a .row .now) (a .w) (a .n) (a .s .now) (a .rows) (a .room) r pos (c .before .before .before .before .before .before .before .if4 .left)) (c .before .before .before .before .before .if5 .left) (c .before .before .into .ensures .is) }
 
 try-each-returns : (t : ℕ) → try-each-lts.Need-returns (try-each-claims t) (try-each-at t) try-each.Post
 try-each-returns t c =
@@ -453,28 +485,36 @@ try-each-returns-4 t c =
     let p : 0 < a .more = omega (arith, c .before .before .before .before .before .before .before .before .before .before .before .before .before .if1 .left) in
     each-no (a .bytes .now) (a .nodes .now) (a .left .now) (a .counts .now) (a .arities .now) low (a .row .now) (a .w) (a .n) (a .key) (a .more) (a .s .now) (a .rows) (a .room) r (a .calls) (c .before .before .before .before .before .before .before .before .before .before .before .before .arity .result) (c .before .before .before .before .before .before .before .before .before .before .before .before .arity .ensures) p (c .before .before .before .before .before .before .before .before .before .before .into .last .1 .1 .1 .1 .1 .1 .1 .1 .1 .0) (c .before .before .before .before .before .before .before .before .before .before .into .result) (c .before .before .before .before .before .before .before .before .before .before .into .ensures) (c .before .before .before .before .before .before .r .given .0 .1 .0) (c .before .before .before .before .before .before .r .given .1 ∙ ap (λ y. Done y (c .before .before .before .before .before .before .r .given .0 .1 .0)) (c .before .before .before .before .if2 .left)) (c .before .before .try-each .last .1 .1 .1 .1 .1 .1 .1 .1 .1 .1 .0) (c .before .before .try-each .result) (c .before .before .try-each .ensures)
 
-wildcard-slice-reshare-prefix-complete : (t : ℕ) → wildcard-lts.Need-slice-reshare-prefix-complete (wildcard-claims t) (wildcard-at t) wildcard.Post
-wildcard-slice-reshare-prefix-complete t c =
+wildcard-slice-reshare-prefix-collect-ctors : (t : ℕ) → wildcard-lts.Need-slice-reshare-prefix-collect-ctors (wildcard-claims t) (wildcard-at t) wildcard.Post
+wildcard-slice-reshare-prefix-collect-ctors t c =
     let r = c .before .before .before .before .before .before .before .pre .1 .0 in
     omega (arith, r .space)
 
-wildcard-slice-aggregate-complete : (t : ℕ) → wildcard-lts.Need-slice-aggregate-complete (wildcard-claims t) (wildcard-at t) wildcard.Post
-wildcard-slice-aggregate-complete t c =
+wildcard-slice-aggregate-collect-ctors : (t : ℕ) → wildcard-lts.Need-slice-aggregate-collect-ctors (wildcard-claims t) (wildcard-at t) wildcard.Post
+wildcard-slice-aggregate-collect-ctors t c =
     let a = c .before .before .before .before .before .before .before .before .args in
     let r = c .before .before .before .before .before .before .before .before .pre .1 .0 in
     sym (length-take-le (a .rows) (a .s .now) (omega (arith, r .space)))
 
-wildcard-complete-requires : (t : ℕ) → wildcard-lts.Need-complete-requires (wildcard-claims t) (wildcard-at t) wildcard.Post
-wildcard-complete-requires t c κs =
+wildcard-collect-ctors-requires : (t : ℕ) → wildcard-lts.Need-collect-ctors-requires (wildcard-claims t) (wildcard-at t) wildcard.Post
+wildcard-collect-ctors-requires t c κs =
     let a = c .before .before .before .before .before .before .before .before .args in
     let r = c .before .before .before .before .before .before .before .before .pre .1 .0 in
     few-places (a .nodes .now) (a .left .now) (a .counts .now) (a .arities .now) (a .n) (take (a .rows) (a .s .now)) (r .places) (r .some)
 
+wildcard-enum-known-column : (t : ℕ) → wildcard-lts.Need-enum-known-column (wildcard-claims t) (wildcard-at t) wildcard.Post
+wildcard-enum-known-column t c =
+    search needs
+
+wildcard-enum-told : (t : ℕ) → wildcard-lts.Need-enum-told (wildcard-claims t) (wildcard-at t) wildcard.Post
+wildcard-enum-told t c =
+    search needs
+
 wildcard-into-requires : (t : ℕ) → wildcard-lts.Need-into-requires (wildcard-claims t) (wildcard-at t) wildcard.Post
 wildcard-into-requires t c κs =
-    let a = c .before .before .before .before .before .before .before .before .before .before .before .args in
-    let r = c .before .before .before .before .before .before .before .before .before .before .before .pre .1 .0 in
-    (wild-into-falls (a .bytes .now) (a .nodes .now) (a .left .now) (a .counts .now) (a .arities .now) (a .row .now) (a .w) (a .n) (a .s .now) (a .rows) (a .room) r t (c .before .before .before .before .before .before .before .before .before .before .before .pre .0), wild-work (a .bytes .now) (a .nodes .now) (a .left .now) (a .counts .now) (a .arities .now) (a .row .now) (a .w) (a .n) (a .s .now) (a .rows) (a .room) r)
+    let a = c .before .before .before .before .before .before .before .before .before .before .before .before .args in
+    let r = c .before .before .before .before .before .before .before .before .before .before .before .before .pre .1 .0 in
+    (wild-into-falls (a .bytes .now) (a .nodes .now) (a .left .now) (a .counts .now) (a .arities .now) (a .row .now) (a .w) (a .n) (a .s .now) (a .rows) (a .room) r t (c .before .before .before .before .before .before .before .before .before .before .before .before .pre .0), wild-work (a .bytes .now) (a .nodes .now) (a .left .now) (a .counts .now) (a .arities .now) (a .row .now) (a .w) (a .n) (a .s .now) (a .rows) (a .room) r)
 
 wildcard-same-length : (t : ℕ) → wildcard-lts.Need-same-length (wildcard-claims t) (wildcard-at t) wildcard.Post
 wildcard-same-length t c =
@@ -482,29 +522,17 @@ wildcard-same-length t c =
 
 wildcard-returns : (t : ℕ) → wildcard-lts.Need-returns (wildcard-claims t) (wildcard-at t) wildcard.Post
 wildcard-returns t c =
-    let a = c .before .before .before .before .before .before .before .before .before .before .before .before .before .before .args in
-    let r = c .before .before .before .before .before .before .before .before .before .before .before .before .before .before .pre .1 .0 in
-    wild-into (a .bytes .now) (a .nodes .now) (a .left .now) (a .counts .now) (a .arities .now) (a .row .now) (a .w) (a .n) (a .s .now) (a .rows) (a .room) r (a .calls) (c .before .before .before .before .before .complete .result) (c .before .before .before .before .before .complete .ensures) (c .before .before .into .last .1 .1 .1 .1 .1 .1 .1 .1 .1 .0) (c .before .before .into .result) (c .before .before .before .before .if1 .taken) (c .before .before .into .ensures)
-
-wildcard-count-requires : (t : ℕ) → wildcard-lts.Need-count-requires (wildcard-claims t) (wildcard-at t) wildcard.Post
-wildcard-count-requires t c κs =
-    omega (arith, c .if1 .left)
+    let a = c .before .before .before .before .before .before .before .before .before .before .before .before .before .before .before .args in
+    let r = c .before .before .before .before .before .before .before .before .before .before .before .before .before .before .before .pre .1 .0 in
+    wild-into (a .bytes .now) (a .nodes .now) (a .left .now) (a .counts .now) (a .arities .now) (a .row .now) (a .w) (a .n) (a .s .now) (a .rows) (a .room) r (a .calls) (c .before .before .before .before .before .before .collect-ctors .result) (c .before .before .before .before .before .before .collect-ctors .ensures) (c .before .before .into .last .1 .1 .1 .1 .1 .1 .1 .1 .1 .0) (c .before .before .into .result) (c .before .before .before .before .enum-told .given .0 .0) (c .before .before .before .before .enum-told .given .0 .1 .0) (c .before .before .before .before .enum-told .given .1) (c .before .before .into .ensures)
 
 wildcard-try-each-requires : (t : ℕ) → wildcard-lts.Need-try-each-requires (wildcard-claims t) (wildcard-at t) wildcard.Post
 wildcard-try-each-requires t c κs =
-    let a = c .before .before .before .before .before .before .before .before .before .before .before .before .args in
-    let r = c .before .before .before .before .before .before .before .before .before .before .before .before .pre .1 .0 in
-    let whole = seen-whole (a .counts .now) (map (headAt (a .nodes .now) (a .left .now) (a .n)) (take (a .rows) (a .s .now))) (c .before .before .before .complete .result) (full-b (a .counts .now) (map (headAt (a .nodes .now) (a .left .now) (a .n)) (take (a .rows) (a .s .now))) (c .before .before .before .complete .result) (c .before .before .before .complete .ensures) (c .before .before .if1 .left)) in
-    let few : c .before .count .result ≤ 255 = omega (arith, c .before .count .ensures, c .before .before .before .before .before .before .before .before .shared-slice-known4 .given ((c .before .before .before .complete .result - 1) / 32)) in (
-      wild-each-falls (a .bytes .now) (a .nodes .now) (a .left .now) (a .counts .now) (a .arities .now) (a .row .now) (a .w) (a .n) (a .s .now) (a .rows) (a .room) r t (c .before .count .result) (omega arith) (c .before .before .before .before .before .before .before .before .before .before .before .before .pre .0),
-      (
-        r,
-        (
-          subst (λ (k : ℕ). Listed (map (headAt (a .nodes .now) (a .left .now) (a .n)) (take (a .rows) (a .s .now))) (c .before .before .before .complete .result) k) (sym (c .before .count .ensures)) (whole .listed),
-          (c .before .before .before .before .before .before .before .before .before .before .before .before .pre .1 .1, whole .positive, omega (arith, few, whole .small)),
-        ),
-      ),
-    )
+    let a = c .before .before .before .before .before .before .before .before .before .before .before .before .before .args in
+    let r = c .before .before .before .before .before .before .before .before .before .before .before .before .before .pre .1 .0 in
+    let g = complete-seen (a .counts .now) (map (headAt (a .nodes .now) (a .left .now) (a .n)) (take (a .rows) (a .s .now))) (c .before .before .before .before .collect-ctors .result) (c .before .before .column .given .0 .0) (c .before .before .column .given .0 .1 .0) (c .before .before .column .given .1) (c .before .before .before .before .collect-ctors .ensures) in
+    let few : c .before .before .column .given .0 .1 .0 ≤ 255 = omega (arith, g .many, c .before .before .before .before .before .before .before .before .before .shared-slice-known4 .given ((c .before .before .column .given .0 .0 - 1) / 32)) in
+    (wild-each-falls (a .bytes .now) (a .nodes .now) (a .left .now) (a .counts .now) (a .arities .now) (a .row .now) (a .w) (a .n) (a .s .now) (a .rows) (a .room) r t (c .before .before .column .given .0 .1 .0) (omega arith) (c .before .before .before .before .before .before .before .before .before .before .before .before .before .pre .0), (r, (g .listed, (c .before .before .before .before .before .before .before .before .before .before .before .before .before .pre .1 .1, g .positive, omega (arith, few, g .small)))))
 
 wildcard-same-length-2 : (t : ℕ) → wildcard-lts.Need-same-length-2 (wildcard-claims t) (wildcard-at t) wildcard.Post
 wildcard-same-length-2 t c =
@@ -512,9 +540,9 @@ wildcard-same-length-2 t c =
 
 wildcard-returns-2 : (t : ℕ) → wildcard-lts.Need-returns-2 (wildcard-claims t) (wildcard-at t) wildcard.Post
 wildcard-returns-2 t c =
-    let a = c .before .before .before .before .before .before .before .before .before .before .before .before .before .before .before .args in
-    let r = c .before .before .before .before .before .before .before .before .before .before .before .before .before .before .before .pre .1 .0 in
-    wild-each (a .bytes .now) (a .nodes .now) (a .left .now) (a .counts .now) (a .arities .now) (a .row .now) (a .w) (a .n) (a .s .now) (a .rows) (a .room) r (a .calls) (c .before .before .before .before .before .before .complete .result) (c .before .before .before .before .before .before .complete .ensures) (c .before .before .try-each .last .1 .1 .1 .1 .1 .1 .1 .1 .1 .1 .0) (c .before .before .try-each .result) (c .before .before .before .before .before .if1 .left) (c .before .before .before .before .count .result) (c .before .before .before .before .count .ensures) (c .before .before .try-each .ensures)
+    let a = c .before .before .before .before .before .before .before .before .before .before .before .before .before .before .before .before .args in
+    let r = c .before .before .before .before .before .before .before .before .before .before .before .before .before .before .before .before .pre .1 .0 in
+    wild-each (a .bytes .now) (a .nodes .now) (a .left .now) (a .counts .now) (a .arities .now) (a .row .now) (a .w) (a .n) (a .s .now) (a .rows) (a .room) r (a .calls) (c .before .before .before .before .before .before .before .collect-ctors .result) (c .before .before .before .before .before .before .before .collect-ctors .ensures) (c .before .before .try-each .last .1 .1 .1 .1 .1 .1 .1 .1 .1 .1 .0) (c .before .before .try-each .result) (c .before .before .before .before .before .column .given .0 .0) (c .before .before .before .before .before .column .given .0 .1 .0) (c .before .before .before .before .before .column .given .1) (c .before .before .try-each .ensures)
 
 pub +into+is-useful+try-each+wildcard-spec : {M : Type 1} → statement M
 +into+is-useful+try-each+wildcard-spec =
@@ -537,32 +565,35 @@ pub +into+is-useful+try-each+wildcard-spec : {M : Type 1} → statement M
     is-useful.Post
     (is-useful-add-cells t)
     (is-useful-mul-cells t)
+    (is-useful-over-requires t)
     (is-useful-returns t)
-    (is-useful-returns-2 t)
     (is-useful-leaf-requires t)
-    (is-useful-returns-3 t)
+    (is-useful-returns-2 t)
     (is-useful-leaf-requires-2 t)
-    (is-useful-returns-4 t)
+    (is-useful-returns-3 t)
     (is-useful-sub-wildcard t)
     (is-useful-add-wildcard t)
+    (is-useful-sub-wildcard-2 t)
     (is-useful-wildcard-requires t)
     (is-useful-same-length t)
-    (is-useful-returns-5 t)
+    (is-useful-returns-4 t)
     (is-useful-shared-slice-read-h t)
-    (is-useful-sub-wildcard-2 t)
+    (is-useful-sub-wildcard-3 t)
     (is-useful-part-wildcard-start t)
     (is-useful-part-wildcard-end t)
     (is-useful-add-wildcard-2 t)
+    (is-useful-sub-wildcard-4 t)
     (is-useful-wildcard-requires-2 t)
     (is-useful-same-length-2 t)
-    (is-useful-returns-6 t)
+    (is-useful-returns-5 t)
     (is-useful-sub-into t)
     (is-useful-part-into-start t)
     (is-useful-part-into-end t)
     (is-useful-add-into t)
+    (is-useful-sub-into-2 t)
     (is-useful-into-requires t)
     (is-useful-same-length-3 t)
-    (is-useful-returns-7 t))
+    (is-useful-returns-6 t))
     (λ t. try-each-lts.spec (try-each-claims t)
     (try-each-at t)
     try-each.Post
@@ -584,13 +615,14 @@ pub +into+is-useful+try-each+wildcard-spec : {M : Type 1} → statement M
     λ t. wildcard-lts.spec (wildcard-claims t)
     (wildcard-at t)
     wildcard.Post
-    (wildcard-slice-reshare-prefix-complete t)
-    (wildcard-slice-aggregate-complete t)
-    (wildcard-complete-requires t)
+    (wildcard-slice-reshare-prefix-collect-ctors t)
+    (wildcard-slice-aggregate-collect-ctors t)
+    (wildcard-collect-ctors-requires t)
+    (wildcard-enum-known-column t)
+    (wildcard-enum-told t)
     (wildcard-into-requires t)
     (wildcard-same-length t)
     (wildcard-returns t)
-    (wildcard-count-requires t)
     (wildcard-try-each-requires t)
     (wildcard-same-length-2 t)
     (wildcard-returns-2 t)

@@ -5,7 +5,7 @@ use Prim.Native.Nat.{ℕ, _≤_}
 use native.Mathlib.Nat.{le-trans}
 use native.Mathlib.Omega.{arith}
 use lib.ListN.{replicate, length-replicate}
-use Rattle.useful.specs.Driver.{Judges}
+use Rattle.judge.specs.Driver.{Judges}
 use Rattle.missing.specs.Missing.{Finds}
 use Rattle.block.proofs.Walking.{first-over, second-over, both-done}
 use Rattle.block.proofs.driver.walk.Statement.{statement}
@@ -14,7 +14,7 @@ use Rattle.block.proofs.driver.walk.Reads as reads
 use Rattle.block.proofs.driver.walk.Lts as lts
 use Rattle.cells.proofs.clear.Reads as clear-reads
 use Rattle.missing.proofs.missing.Reads as missing-reads
-use Rattle.useful.proofs.judge.Reads as judge-reads
+use Rattle.judge.proofs.judge.Reads as judge-reads
 
 -- src/driver.rt:55:9
 judge-requires : tie.Need-judge-requires

@@ -1,0 +1,2 @@
+-- What the contracts of the driver say.
+pub mod Driver

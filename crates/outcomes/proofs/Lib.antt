@@ -1,0 +1,2 @@
+-- What the limits' tests say.
+pub mod Tests

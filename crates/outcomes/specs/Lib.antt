@@ -1,0 +1,2 @@
+-- What the limits make of a call.
+pub mod Past
