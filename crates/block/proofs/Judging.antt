@@ -18,7 +18,8 @@ use Rattle.matrix.specs.Places.{Sizes}
 use Rattle.matrix.specs.Places.{Starts}
 use Rattle.walks.proofs.BridgeTable.{starts-hold}
 use Rattle.text.specs.Rows.{slices}
-use Rattle.lines.specs.Findings.{said, Says, Small}
+use Rattle.verdicts.specs.Verdicts.{said}
+use Rattle.lines.specs.Findings.{Says, Small}
 use Rattle.block.specs.declared.driver.Walks.the-variants.{Done, Over}
 use Rattle.block.specs.Driver.{Slices, Holds, Known, Walked, over, done, Given}
 use Rattle.block.proofs.Held.{no-more-rows}

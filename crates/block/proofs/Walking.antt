@@ -20,7 +20,7 @@ use Rattle.judge.specs.Driver.{Judges}
 use Rattle.missing.specs.Missing.{Finds}
 use Rattle.judge.specs.declared.Judged.the-variants as judgedAs
 use Rattle.outcomes.specs.declared.Seek.the-variants as seek
-use Rattle.lines.specs.Findings.{said}
+use Rattle.verdicts.specs.Verdicts.{said}
 use Rattle.walks.proofs.Limits.{within-not}
 use Rattle.judge.proofs.Driver.{judged-done, judged-over}
 use Rattle.missing.proofs.Driver.{found-not, found-done, found-over}

@@ -13,7 +13,7 @@ use Rattle.scope.specs.Answer.{Outcome}
 use Rattle.layout.specs.Nodes.{rowOf}
 use Rattle.walks.specs.Bridge.{Holding}
 use Rattle.text.specs.Rows.{slices, Tabled}
-use Rattle.lines.specs.Findings.{said}
+use Rattle.verdicts.specs.Verdicts.{said}
 use Rattle.block.specs.declared.driver.Walks.{Walks}
 use Rattle.block.specs.declared.driver.Walks.the-variants.{Done, Over}
 

@@ -1,7 +1,7 @@
 // What the program prints for a file.
 use crate::check;
-use lines::refusal;
 use scope::Answer;
+use wording::refusal;
 ghost use Prim.Native.Nat.{_≤_};
 ghost use lib.ListN.{length};
 ghost use Rattle.block.specs.Print.{Prints};

@@ -6,29 +6,36 @@ use native.Mathlib.Omega.{arith}
 use native.Mathlib.Numerals.{add-one, one-add}
 use lib.ListN.{length, take, drop, length-drop, take-append-drop}
 use lib.Seq.{length-take-le}
-use Rattle.scope.specs.Lists.{Text, bytes}
+use Rattle.scope.specs.Lists.{Text}
 use Rattle.scope.specs.Types.{Ref, Table}
 use Rattle.scope.specs.Patterns.{Row}
-use Rattle.scope.specs.Text.{skip, source, paste, alone}
+use Rattle.scope.specs.Text.{skip, Mode, source, paste, alone}
 use Rattle.scope.specs.Report.{gapLines}
 use Rattle.writing.specs.Writing.{Wrote}
 use Rattle.text.specs.Rows.{Slices, Tabled, rowAt, Begins}
 use Rattle.text.specs.Printing.{patternText, Many, Printed}
-use Rattle.lines.specs.Findings.{gapsText}
+use Rattle.lines.specs.Findings.{gapWord, gapText, gapsText}
 use Rattle.writing.proofs.Writing.{wrote-more, wrote-as}
 use Rattle.text.proofs.Rows.{skip-none, skip-add, begins-skip}
 use Rattle.text.proofs.Printing.{nothing}
 
+-- a word, the pattern, and the line feed
+pub text-printed : {s : Slices} {p q : ℕ} {a b c d : List ℕ} {at k l after : ℕ} (mode : Mode)
+    → Wrote a b at k (gapWord mode) → Printed s (Many 1) p q b c k l (patternText mode alone) → Wrote c d l after (10 ∷ []) → Printed s (Many 1) p q a d at after (gapText mode)
+text-printed mode w h x = record {
+  prints = λ table d ts us r v.
+      let one = h .prints table d ts us r v in
+      (wrote-more (wrote-more w (one .0)) x, one .1);
+}
+
 -- the same pattern twice: the Rust's text, then the paste text
-pub gap-printed : {s : Slices} {p m q : ℕ} {a b c d e f g : List ℕ} {at k l n o u after : ℕ}
-    → Wrote a b at k (bytes "missing ") → Printed s (Many 1) p m b c k l (patternText source alone) → Wrote c d l n (10 ∷ [])
-    → Wrote d e n o (bytes "paste ") → Printed s (Many 1) p q e f o u (patternText paste alone) → Wrote f g u after (10 ∷ [])
-    → Printed s (Many 1) p q a g at after gapLines
-gap-printed w h x y i z = record {
+pub gap-printed : {s : Slices} {p m q : ℕ} {a b c : List ℕ} {at k after : ℕ}
+    → Printed s (Many 1) p m a b at k (gapText source) → Printed s (Many 1) p q b c k after (gapText paste) → Printed s (Many 1) p q a c at after gapLines
+gap-printed h i = record {
   prints = λ table d ts us r v.
       let first = h .prints table d ts us r v in
       let second = i .prints table d ts us r v in
-      (wrote-more (wrote-more (wrote-more w (first .0)) x) (wrote-more (wrote-more y (second .0)) z), second .1);
+      (wrote-more (first .0) (second .0), second .1);
 }
 
 gaps-snoc : (table : Table) (i : ℕ) (r : Row) → gapsText i table r ++ gapLines table (skip table r i) ≡ gapsText (suc i) table r

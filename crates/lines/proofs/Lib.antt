@@ -1,5 +1,4 @@
--- Laws of the report's lines.
-pub mod Verdicts
+-- Laws of the missing rows' lines, and of the report.
 pub mod Gaps
 pub mod Trailing
 pub mod Reports

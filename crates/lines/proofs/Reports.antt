@@ -1,7 +1,8 @@
 -- The report is the definition's: the missing rows' lines from rows that stand one after another, then all lines together.
 use mathlib.Core.Path.{_≡_, refl, ap, ap₂, sym, subst, _∙_}
 use mathlib.Core.List.{List, [], _∷_, _++_, map, append-assoc, append-nil}
-use Prim.Native.Nat.{ℕ, _+_}
+use mathlib.Core.Bool.{Bool}
+use Prim.Native.Nat.{ℕ}
 use lib.ListN.{length, replicate, length-replicate}
 use Rattle.scope.specs.Lists.{Text, bytes, flatten}
 use Rattle.scope.specs.Types.{Ref, Table}
@@ -11,7 +12,8 @@ use Rattle.scope.specs.Report.{Findings, line, countLine, clauseLines, gapLines
 use Rattle.writing.specs.Writing.{Wrote}
 use Rattle.text.specs.Rows.{Slices, Tabled, rowAt, Begins, done}
 use Rattle.text.specs.Printing.{Many, Printed}
-use Rattle.lines.specs.Findings.{said, gapsText, Says}
+use Rattle.verdicts.specs.Verdicts.{said}
+use Rattle.lines.specs.Findings.{gapsText, Says}
 use Rattle.writing.proofs.Writing.{wrote-more, wrote-as}
 use Rattle.text.proofs.Rows.{typed-then}
 use Rattle.lines.proofs.Trailing.{after, trailing, all-read}
@@ -35,23 +37,20 @@ module _ (table : Table) (t : Ref) (more : Row) where
       ap (λ (q : Row). gapLines table q ++ gapsText (length m) table (skip table q 1)) (regroup r m) ∙ ap₂ _++_ lines (ap (gapsText (length m) table) next ∙ gaps-text d k)
 
 -- all lines together
-pub report-law : {s : Slices} {vs : List ℕ} {gaps first second q : ℕ} {o₀ o₁ o₂ o₃ o₄ o₅ o₆ o₇ o₈ o₉ o₁₀ o₁₁ : List ℕ} {at a b c d e f g h i j after : ℕ}
-    → Wrote o₀ o₁ at a (countLine (said vs)) → Wrote o₁ o₂ a b (clauseLines 1 (said vs))
-    → Wrote o₂ o₃ b c (bytes "gaps ") → Wrote o₃ o₄ c d (decimal gaps) → Wrote o₄ o₅ d e (10 ∷ [])
-    → Printed s (Many gaps) 0 q o₅ o₆ e f (gapsText gaps)
-    → Wrote o₆ o₇ f g (bytes "calls ") → Wrote o₇ o₈ g h (decimal first) → Wrote o₈ o₉ h i (bytes " ") → Wrote o₉ o₁₀ i j (decimal second) → Wrote o₁₀ o₁₁ j after (10 ∷ [])
-    → (table : Table) (fs : Findings) → Says s vs gaps first second table fs → Wrote o₀ o₁₁ at after (report table fs)
+pub report-law : {s : Slices} {vs : List ℕ} {gaps first second q : ℕ} {o o₁ o₂ o₃ : List ℕ} {at a b after : ℕ}
+    → Wrote o o₁ at a (countLine (said vs) ++ clauseLines 1 (said vs) ++ line (bytes "gaps " ++ decimal gaps))
+    → Printed s (Many gaps) 0 q o₁ o₂ a b (gapsText gaps)
+    → Wrote o₂ o₃ b after (line (bytes "calls " ++ decimal first ++ bytes " " ++ decimal second))
+    → (table : Table) (fs : Findings) → Says s vs gaps first second table fs → Wrote o o₃ at after (report table fs)
 unfolding report rowAt
-report-law {s} {vs} {gaps} {first} {second} w₁ w₂ w₃ w₄ w₅ p w₆ w₇ w₈ w₉ w₁₀ table fs says =
+report-law {s} {vs} {gaps} {first} {second} w p x table fs says =
     let rows = fs .missing .result in
     let n = says .gapsAre in
     let begins : Begins table (replicate (length rows) (says .subject) ++ []) (rowAt s 0) = subst (λ (us : List Ref). Begins table us (rowAt s 0)) (sym (append-nil (replicate (length rows) (says .subject)))) (subst (λ (r : Row). Begins table (replicate (length rows) (says .subject)) r) (sym (says .rowsAre)) (rows-begin table (says .subject) (says .more) (says .typed))) in
-    let x = p .prints table (says .tabled) (replicate (length rows) (says .subject)) [] (record { many = length-replicate (length rows) (says .subject) ∙ sym n }) begins in
+    let y = p .prints table (says .tabled) (replicate (length rows) (says .subject)) [] (record { many = length-replicate (length rows) (says .subject) ∙ sym n }) begins in
     let lines : gapsText gaps table (rowAt s 0) ≡ flatten (map (gapLines table) rows) = ap₂ (λ (k : ℕ) (r : Row). gapsText k table r) n (says .rowsAre) ∙ gaps-text table (says .subject) (says .more) (says .tabled) (says .typed) in
     wrote-more
     (wrote-more
-    (wrote-more
-    (wrote-more (wrote-as (ap countLine (says .verdictsAre)) w₁) (wrote-as (ap (clauseLines 1) (says .verdictsAre)) w₂))
-    (wrote-more (wrote-more w₃ (wrote-as (ap decimal n) w₄)) w₅))
-    (wrote-as lines (x .0)))
-    (wrote-more (wrote-more (wrote-more (wrote-more w₆ (wrote-as (ap decimal (says .firstIs)) w₇)) w₈) (wrote-as (ap decimal (says .secondIs)) w₉)) w₁₀)
+    (wrote-as (ap₂ (λ (us : List Bool) (k : ℕ). countLine us ++ clauseLines 1 us ++ line (bytes "gaps " ++ decimal k)) (says .verdictsAre) n) w)
+    (wrote-as lines (y .0)))
+    (wrote-as (ap₂ (λ (j k : ℕ). line (bytes "calls " ++ decimal j ++ bytes " " ++ decimal k)) (says .firstIs) (says .secondIs)) x)

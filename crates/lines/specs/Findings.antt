@@ -1,21 +1,25 @@
 -- What the report is made from: findings, as slices and numbers say them.
 use mathlib.Core.Path.{_≡_}
-use mathlib.Core.List.{List, [], _∷_, _++_, map}
-use mathlib.Core.Bool.{Bool}
+use mathlib.Core.List.{List, [], _∷_, _++_}
 use Prim.Native.Nat.{ℕ, zero, suc, _^_, _≤_, _<_}
 use lib.ListN.{length}
-use lib.Dec.{eqb}
-use Rattle.scope.specs.Lists.{Text, flatten}
+use Rattle.scope.specs.Lists.{Text, bytes, flatten}
 use Rattle.scope.specs.Types.{Ref, Table}
 use Rattle.scope.specs.Patterns.{Row, TypedRows}
-use Rattle.scope.specs.Text.{skip}
-use Rattle.scope.specs.Report.{Findings, gapLines}
+use Rattle.scope.specs.Text.{skip, Mode, source, paste, pretty}
+use Rattle.scope.specs.Report.{Findings, line, gapLines}
 use Rattle.layout.specs.Nodes.{rowOf}
+use Rattle.verdicts.specs.Verdicts.{said}
 use Rattle.text.specs.Rows.{Slices, Tabled}
 
--- the verdicts that bytes say: 1 is yes
-abbrev pub said : List ℕ → List Bool
-said verdicts = map (λ v. eqb v 1) verdicts
+-- what stands before a missing row's text
+abbrev pub gapWord : Mode → Text
+gapWord source = bytes "missing "
+gapWord paste = bytes "paste "
+
+-- a line of a missing row
+abbrev pub gapText : Mode → Table → Row → Text
+gapText mode table r = line (gapWord mode ++ pretty mode table r)
 
 -- the lines of n missing rows that stand one after another
 unfoldable pub gapsText : ℕ → Table → Row → Text

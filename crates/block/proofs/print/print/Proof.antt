@@ -7,7 +7,7 @@ use Rattle.block.proofs.print.print.Tie as tie
 use Rattle.block.proofs.print.print.Reads as reads
 use Rattle.block.proofs.print.print.Lts as lts
 use Rattle.block.proofs.check.Reads as check-reads
-use Rattle.lines.proofs.refusal.Reads as refusal-reads
+use Rattle.wording.proofs.refusal.Reads as refusal-reads
 
 -- src/print.rt:14:9
 check-requires : tie.Need-check-requires

@@ -1,5 +1,5 @@
 -- The verdicts' lines, verdict by verdict.
-use mathlib.Core.Path.{_≡_, refl, ap, ap₂, sym, _∙_}
+use mathlib.Core.Path.{_≡_, refl, ap, sym, _∙_}
 use mathlib.Core.List.{List, [], _∷_, _++_, append-assoc, append-nil}
 use mathlib.Core.Bool.{Bool, true, false}
 use Prim.Native.Nat.{ℕ, suc, _+_, _-_, _<_}
@@ -13,8 +13,9 @@ use Rattle.scope.specs.Lists.{Text, bytes, bit}
 use Rattle.scope.specs.Text.{decimal}
 use Rattle.scope.specs.Report.{yeses, noes, line, countLine, verdictWord, clauseLines}
 use Rattle.writing.specs.Writing.{Wrote}
-use Rattle.lines.specs.Findings.{said}
+use Rattle.verdicts.specs.Verdicts.{said}
 use Rattle.writing.proofs.Writing.{wrote-as}
+use Rattle.wording.proofs.Wording.{then-numbered, then-ended}
 
 said-append : (a b : List ℕ) → said (a ++ b) ≡ said a ++ said b
 said-append [] b = refl
@@ -41,12 +42,19 @@ both-counts [] = refl
 both-counts (true ∷ vs) = omega (arith, both-counts vs)
 both-counts (false ∷ vs) = omega (arith, both-counts vs)
 
-pub count-law : {a b : List ℕ} {at after : ℕ} (vs : List ℕ) (n : ℕ) → n ≡ yeses (said vs)
-    → Wrote a b at after (line (bytes "clauses " ++ decimal (length vs) ++ bytes " reached " ++ decimal n ++ bytes " never " ++ decimal (length vs - n))) → Wrote a b at after (countLine (said vs))
-count-law vs n e w =
+-- both counts, each after its word
+pub count-law : {a b c d : List ℕ} {at k l after : ℕ} (vs : List ℕ) (n : ℕ) → n ≡ yeses (said vs)
+    → Wrote a b at k (bytes "clauses " ++ decimal (length vs)) → Wrote b c k l (bytes " reached " ++ decimal n) → Wrote c d l after (line (bytes " never " ++ decimal (length vs - n))) → Wrote a d at after (countLine (said vs))
+count-law vs n e w x y =
     let l : length vs ≡ length (said vs) = sym (said-length vs) in
     let m : length vs - n ≡ noes (said vs) = omega (arith, both-counts (said vs)) in
-    wrote-as (ap₂ (λ (j k : ℕ). line (bytes "clauses " ++ decimal j ++ bytes " reached " ++ decimal k ++ bytes " never " ++ decimal (length vs - n))) l e ∙ ap (λ (j : ℕ). line (bytes "clauses " ++ decimal (length (said vs)) ++ bytes " reached " ++ decimal (yeses (said vs)) ++ bytes " never " ++ decimal j)) m) w
+    let first = bytes "clauses " ++ decimal (length (said vs)) in
+    let second = first ++ bytes " reached " ++ decimal (yeses (said vs)) in
+    then-ended second (bytes " never ") (decimal (noes (said vs)))
+    (then-numbered first (bytes " reached ") (decimal (yeses (said vs)))
+    (wrote-as (ap (λ (j : ℕ). bytes "clauses " ++ decimal j) l) w)
+    (wrote-as (ap (λ (j : ℕ). bytes " reached " ++ decimal j) e) x))
+    (wrote-as (ap (λ (j : ℕ). line (bytes " never " ++ decimal j)) m) y)
 
 -- the line of clause k
 abbrev pub clauseText : ℕ → Bool → Text

@@ -7,11 +7,11 @@ use lib.ListN.{length, take}
 use lib.Seq.{take-all, length-sets}
 use Rattle.scope.specs.Report.{clauseLines}
 use Rattle.writing.specs.Writing.{Wrote}
-use Rattle.lines.specs.Findings.{said}
+use Rattle.verdicts.specs.Verdicts.{said}
 use Rattle.writing.proofs.Writing.{wrote-none, wrote-more, wrote-as}
-use Rattle.lines.proofs.Verdicts.{lines-next}
-use Rattle.lines.proofs.clause_lines.Statement.{statement}
-use Rattle.lines.proofs.clause_lines.Tie as tie
+use Rattle.verdicts.proofs.Verdicts.{lines-next}
+use Rattle.verdicts.proofs.clause_lines.Statement.{statement}
+use Rattle.verdicts.proofs.clause_lines.Tie as tie
 
 abbrev Inv-loop : tie.InvT-loop
 Inv-loop verdicts out₀ at next₀ i₀ out next i = (i ≤ length verdicts) × ((next ≤ at + 64 * i) × Wrote out₀ out at next (clauseLines 1 (said (take i verdicts))))

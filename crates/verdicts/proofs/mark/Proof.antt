@@ -3,8 +3,8 @@ use mathlib.Core.Path.{sym, ap}
 use native.Mathlib.Omega.{arith}
 use borrow.Author.Tests.{eq-eqb, ne-eqb}
 use Rattle.scope.specs.Lists.{bit}
-use Rattle.lines.proofs.mark.Statement.{statement}
-use Rattle.lines.proofs.mark.Tie as tie
+use Rattle.verdicts.proofs.mark.Statement.{statement}
+use Rattle.verdicts.proofs.mark.Tie as tie
 
 returns : tie.Need-returns
 returns c =

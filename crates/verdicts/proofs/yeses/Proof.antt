@@ -6,10 +6,10 @@ use native.Mathlib.Omega.{arith}
 use lib.ListN.{length, take}
 use lib.Seq.{take-all}
 use Rattle.scope.specs.Report.{yeses}
-use Rattle.lines.specs.Findings.{said}
-use Rattle.lines.proofs.Verdicts.{yeses-next}
-use Rattle.lines.proofs.yeses.Statement.{statement}
-use Rattle.lines.proofs.yeses.Tie as tie
+use Rattle.verdicts.specs.Verdicts.{said}
+use Rattle.verdicts.proofs.Verdicts.{yeses-next}
+use Rattle.verdicts.proofs.yeses.Statement.{statement}
+use Rattle.verdicts.proofs.yeses.Tie as tie
 
 abbrev Inv-loop : tie.InvT-loop
 Inv-loop verdicts n₀ i₀ n i = (i ≤ length verdicts) × ((n ≤ i) × (n ≡ yeses (said (take i verdicts))))

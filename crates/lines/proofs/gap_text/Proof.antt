@@ -1,0 +1,31 @@
+-- `gap_text` meets its contract: the word, the pattern's text, the line feed.
+use mathlib.Core.Path.{_∙_}
+use native.Mathlib.Omega.{arith}
+use Rattle.naming.specs.Naming.{modeOf}
+use Rattle.lines.proofs.Gaps.{text-printed}
+use Rattle.lines.proofs.gap_text.Statement.{statement}
+use Rattle.lines.proofs.gap_text.Tie as tie
+
+gap-word-requires : tie.Need-gap-word-requires
+gap-word-requires c κs =
+    omega (arith, c .before .before .before .before .before .before .before .before .before .pre)
+
+pretty-requires : tie.Need-pretty-requires
+pretty-requires c κs =
+    omega (arith, c .before .before .before .before .before .before .before .before .before .before .before .before .before .pre, c .before .before .before .gap-word .ensures .1)
+
+byte-requires : tie.Need-byte-requires
+byte-requires c κs =
+    omega (arith, c .before .before .before .before .before .before .before .before .before .before .before .before .before .before .before .before .before .pre, c .before .before .before .before .before .before .before .gap-word .ensures .1, c .before .before .before .pretty .ensures .0)
+
+same-length : tie.Need-same-length
+same-length c =
+    c .before .before .byte .kept .0 ∙ c .before .before .before .before .before .before .pretty .kept .1 .1 .1 .1 .1 .1 .1 .1 .1 .0 ∙ c .before .before .before .before .before .before .before .before .before .before .gap-word .kept .1 .0
+
+returns : tie.Need-returns
+returns c =
+    (c .before .before .before .before .before .before .pretty .ensures .0 .places, (omega (arith, c .before .before .before .before .before .before .before .before .before .before .before .before .before .before .before .before .before .before .before .before .pre, c .before .before .before .before .before .before .before .before .before .before .gap-word .ensures .1, c .before .before .before .before .before .before .pretty .ensures .0, c .before .before .byte .ensures .ends), text-printed (modeOf (c .before .before .before .before .before .before .before .before .before .before .before .before .before .before .before .before .before .before .before .before .args .paste)) (c .before .before .before .before .before .before .before .before .before .before .gap-word .ensures .0) (c .before .before .before .before .before .before .pretty .ensures .1) (c .before .before .byte .ensures)))
+
+pub gap-text-spec : {M : Type 1} → statement M
+gap-text-spec =
+    tie.close (tie.spec gap-word-requires pretty-requires byte-requires same-length returns)

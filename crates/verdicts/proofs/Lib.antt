@@ -1,0 +1,2 @@
+-- Laws of the verdicts' lines.
+pub mod Verdicts

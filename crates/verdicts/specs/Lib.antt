@@ -1,0 +1,2 @@
+-- The verdicts that bytes say.
+pub mod Verdicts

@@ -1,0 +1,108 @@
+// The lines of the verdicts: how many are yes, one line a clause, and all that stands before the missing rows.
+ghost use mathlib.Core.Path.{_≡_};
+ghost use mathlib.Core.List.{_++_};
+ghost use Prim.Native.Nat.{_+_, _*_, _≤_, _<_, _^_};
+ghost use lib.ListN.{length};
+ghost use lib.Dec.{eqb};
+ghost use Rattle.scope.specs.Lists.{bytes as text, bit};
+ghost use Rattle.scope.specs.Text.{decimal as decimalText};
+ghost use Rattle.scope.specs.Report.{yeses as yesesOf, line, countLine, verdictWord, clauseLines};
+ghost use Rattle.writing.specs.Writing.{Wrote};
+ghost use Rattle.verdicts.specs.Verdicts.{said};
+use wording::ended;
+use wording::numbered;
+use writing::all;
+
+// 1 for yes.
+fn mark(verdict: u8) -> usize
+    ensures { λ r. ⌜ r ≡ bit (eqb verdict 1) ⌝ }
+    ensures { λ r. ⌜ r ≤ 1 ⌝ }
+{
+    if verdict == 1 {
+        return 1;
+    }
+    0
+}
+
+// How many verdicts are yes.
+fn yeses(verdicts: &[u8]) -> usize
+    ensures { λ r. ⌜ r ≡ yesesOf (said (now (verdicts .entry))) ⌝ }
+    ensures { λ r. ⌜ r ≤ length (now (verdicts .entry)) ⌝ }
+{
+    let mut n = 0;
+    let mut i = 0;
+    while i < verdicts.len() {
+        n += mark(verdicts[i]);
+        i += 1;
+    }
+    n
+}
+
+// Line 1 counts clauses and both verdicts.
+fn count_line(verdicts: &[u8], out: &mut [u8], at: usize) -> usize
+    requires { ⌜ at + 256 < 2 ^ 62 ⌝ }
+    ensures { λ r. ⌜ Wrote (now (out .entry)) (now (out .exit)) at r (countLine (said (now (verdicts .entry)))) ⌝ }
+    ensures { λ r. ⌜ r ≤ at + 128 ⌝ }
+{
+    let yes = yeses(verdicts);
+    let clauses = *b"clauses ";
+    let reached = *b" reached ";
+    let never = *b" never ";
+    let a = numbered(out, at, &clauses, verdicts.len());
+    let b = numbered(out, a, &reached, yes);
+    ended(out, b, &never, verdicts.len() - yes)
+}
+
+// A verdict in a word, at the end of its line.
+fn verdict_word(yes: bool, out: &mut [u8], at: usize) -> usize
+    requires { ⌜ at + 16 < 2 ^ 62 ⌝ }
+    ensures { λ r. ⌜ Wrote (now (out .entry)) (now (out .exit)) at r (line (verdictWord yes)) ⌝ }
+    ensures { λ r. ⌜ r ≤ at + 16 ⌝ }
+{
+    if yes {
+        let reached = *b" reached\n";
+        return all(out, at, &reached);
+    }
+    let never = *b" never\n";
+    all(out, at, &never)
+}
+
+// The line of clause k.
+fn clause_line(k: usize, yes: bool, out: &mut [u8], at: usize) -> usize
+    requires { ⌜ at + 64 < 2 ^ 62 ⌝ }
+    ensures { λ r. ⌜ Wrote (now (out .entry)) (now (out .exit)) at r (line (text "clause " ++ decimalText k ++ verdictWord yes)) ⌝ }
+    ensures { λ r. ⌜ r ≤ at + 64 ⌝ }
+{
+    let clause = *b"clause ";
+    let next = numbered(out, at, &clause, k);
+    verdict_word(yes, out, next)
+}
+
+// One line a clause.
+fn clause_lines(verdicts: &[u8], out: &mut [u8], at: usize) -> usize
+    requires { ⌜ length (now verdicts) ≤ 65536 ⌝ }
+    requires { ⌜ at + 64 * length (now verdicts) + 64 < 2 ^ 62 ⌝ }
+    ensures { λ r. ⌜ Wrote (now (out .entry)) (now (out .exit)) at r (clauseLines 1 (said (now (verdicts .entry)))) ⌝ }
+    ensures { λ r. ⌜ r ≤ at + 64 * length (now (verdicts .entry)) ⌝ }
+{
+    let mut next = at;
+    let mut i = 0;
+    while i < verdicts.len() {
+        next = clause_line(i + 1, verdicts[i] == 1, out, next);
+        i += 1;
+    }
+    next
+}
+
+// What stands before the missing rows: both verdicts counted, a line for each clause, and how many rows there are.
+pub fn head(verdicts: &[u8], gaps: usize, out: &mut [u8], at: usize) -> usize
+    requires { ⌜ length (now verdicts) ≤ 65536 ⌝ }
+    requires { ⌜ at < 2 ^ 32 ⌝ }
+    ensures { λ r. ⌜ Wrote (now (out .entry)) (now (out .exit)) at r (countLine (said (now (verdicts .entry))) ++ clauseLines 1 (said (now (verdicts .entry))) ++ line (text "gaps " ++ decimalText gaps)) ⌝ }
+    ensures { λ r. ⌜ r ≤ at + 64 * length (now (verdicts .entry)) + 256 ⌝ }
+{
+    let a = count_line(verdicts, out, at);
+    let b = clause_lines(verdicts, out, a);
+    let word = *b"gaps ";
+    ended(out, b, &word, gaps)
+}

@@ -1,0 +1,2 @@
+-- Laws of words and numbers.
+pub mod Wording

@@ -1,0 +1,55 @@
+// Lines of words and numbers: a word with its number, the lines that count gaps and calls, and the line of a refusal.
+ghost use mathlib.Core.List.{_++_};
+ghost use Prim.Native.Nat.{_+_, _≤_, _<_, _^_};
+ghost use lib.ListN.{length};
+ghost use Rattle.scope.specs.Lists.{bytes as text};
+ghost use Rattle.scope.specs.Text.{decimal as decimalText};
+ghost use Rattle.scope.specs.Report.{line as lineOf};
+ghost use Rattle.writing.specs.Writing.{Wrote};
+use cells::wide8;
+use writing::all;
+use writing::byte;
+use writing::decimal;
+
+// A word, and a number after it.
+pub fn numbered(out: &mut [u8], at: usize, word: &[u8], n: usize) -> usize
+    requires { ⌜ at + length (now word) + 32 < 2 ^ 64 ⌝ }
+    ensures { λ r. ⌜ Wrote (now (out .entry)) (now (out .exit)) at r (now (word .entry) ++ decimalText n) ⌝ }
+    ensures { λ r. ⌜ r ≤ at + length (now (word .entry)) + 20 ⌝ }
+{
+    let next = all(out, at, word);
+    decimal(out, next, n)
+}
+
+// The same at the end of a line.
+pub fn ended(out: &mut [u8], at: usize, word: &[u8], n: usize) -> usize
+    requires { ⌜ at + length (now word) + 32 < 2 ^ 64 ⌝ }
+    ensures { λ r. ⌜ Wrote (now (out .entry)) (now (out .exit)) at r (lineOf (now (word .entry) ++ decimalText n)) ⌝ }
+    ensures { λ r. ⌜ r ≤ at + length (now (word .entry)) + 21 ⌝ }
+{
+    let next = numbered(out, at, word, n);
+    byte(out, next, 10)
+}
+
+// `calls` counts both kinds.
+pub fn calls_line(first: usize, second: usize, out: &mut [u8], at: usize) -> usize
+    requires { ⌜ at + 64 < 2 ^ 62 ⌝ }
+    ensures { λ r. ⌜ Wrote (now (out .entry)) (now (out .exit)) at r (lineOf (text "calls " ++ decimalText first ++ text " " ++ decimalText second)) ⌝ }
+{
+    let calls = *b"calls ";
+    let space = *b" ";
+    let next = numbered(out, at, &calls, first);
+    ended(out, next, &space, second)
+}
+
+// What is printed for a refusal: its number and its line.
+pub fn refusal(number: u8, line: usize, out: &mut [u8], at: usize) -> usize
+    requires { ⌜ at + 64 < 2 ^ 62 ⌝ }
+    ensures { λ r. ⌜ Wrote (now (out .entry)) (now (out .exit)) at r (text "refused " ++ decimalText number ++ text " line " ++ decimalText line ++ text "\n") ⌝ }
+    ensures { λ r. ⌜ r ≤ at + 64 ⌝ }
+{
+    let refused = *b"refused ";
+    let word = *b" line ";
+    let next = numbered(out, at, &refused, wide8(number));
+    ended(out, next, &word, line)
+}
