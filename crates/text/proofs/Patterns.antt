@@ -1,14 +1,14 @@
 -- What each function of the printer writes, from what the functions that it calls write: one law for each way out of it.
 use mathlib.Core.Path.{_≡_, refl, ap, ap₂, sym, subst, _∙_}
 use mathlib.Core.List.{List, [], _∷_, _++_, append-nil}
-use mathlib.Core.Bool.{Bool, true, false}
+use mathlib.Core.Bool.{Bool, true, false, not, _&&_}
 use mathlib.Core.Logic.{_⊎_, inl, inr, ⊎-elim}
 use Prim.Native.Nat.{ℕ, zero, suc, _+_, _-_, _/_, _%_, _≤_, _<_}
 use native.Mathlib.Nat.{add-zero}
 use native.Mathlib.Omega.{arith}
 use lib.ListN.{length, getD}
-use lib.Dec.{ltb}
-use borrow.Author.Tests.{ltb-true, ltb-false}
+use lib.Dec.{ltb, eqb}
+use borrow.Author.Tests.{ltb-true, ltb-false, eqb-true, eqb-false}
 use Rattle.scope.specs.Lists.{Text, bytes}
 use Rattle.scope.specs.Types.{Ref, Table, typeAt, kind, ctorAt, fieldsAt, arity}
 use Rattle.scope.specs.Patterns.{Literal, Node, wild, lit, con, Row}
@@ -21,12 +21,13 @@ use Rattle.writing.specs.Writing.{Wrote}
 use Rattle.naming.specs.declared.name.Look as code
 use Rattle.naming.specs.declared.name.Look.the-variants.{Round, Square, Spelled}
 use Rattle.naming.specs.Naming.{nameIn, lookOf, lookIn, labelText}
-use Rattle.naming.proofs.Nodes.{label-colon}
+use Rattle.naming.proofs.Nodes.{label-wild, label-colon}
+use Rattle.marks.specs.Marks.{fieldMark}
 use Rattle.text.specs.Rows.{Slices, Tabled, rowAt, labelTexts, Begins}
-use Rattle.text.specs.Printing.{patternText, roundText, fieldTextAt, fieldsText, squareText, cellText, spelledText, ctorText, Many, FieldsOf, SpelledOf, CellOf, Printed}
+use Rattle.text.specs.Printing.{patternText, textsText, fieldTextAt, fieldsText, itemText, enclosedText, squareText, cellText, spelledText, ctorText, Many, FieldsOf, SpelledOf, CellOf, Printed}
 use Rattle.writing.proofs.Writing.{wrote-none, wrote-more, wrote-as}
 use Rattle.text.proofs.Rows.{Opened, opened, row-wild, row-lit, row-con, skip-none}
-use Rattle.text.proofs.Printing.{printed-as, around, behind}
+use Rattle.text.proofs.Printing.{printed-as, behind}
 use Rattle.text.proofs.Looks.{arity-is, name-is, look-is, square-is, spelled-is, labels-none, labels-are}
 
 -- `pretty` and `pretty_tail` on each kind of node
@@ -68,9 +69,21 @@ look-inj spelled spelled e = refl
 fields-many : {table : Table} {ts : List Ref} {i : ℕ} → FieldsOf i table ts → length ts ≡ arity table (i / 32) (i % 32)
 fields-many f = ap length (f .are)
 
+-- n patterns in round brackets
+abbrev roundText : Mode → ℕ → Table → Row → Text
+roundText mode n table r = bytes "(" ++ textsText mode n table r ++ bytes ")"
+
 -- the name that the code finds
 abbrev pub nameAt : Slices → ℕ → Text
 nameAt s i = nameIn (s .bytes) (getD (s .kinds) (i / 32) 0) (i % 32) (getD (s .names) i 0)
+
+not-true : (b : Bool) → true ≡ not b → b ≡ false
+not-true true e = clash (cc)
+not-true false e = refl
+
+not-false : (b : Bool) → false ≡ not b → b ≡ true
+not-false true e = refl
+not-false false e = clash (cc)
 
 module _ {s : Slices} where
   module _ (mode : Mode) (i : ℕ) where
@@ -86,7 +99,7 @@ module _ {s : Slices} where
               sym (ap (skip table (rowAt s p)) (fields-many (f .fieldsOf) ∙ none) ∙ skip-none table (rowAt s p)),
             )
 
-    pub spelled-round : {p q : ℕ} {a b c : List ℕ} {at k after n start : ℕ} → n ≡ getD (s .arities) i 0 → (n ≡ 0 → ⊥) → start ≡ getD (s .starts) i 0 → getD (s .labels) start 0 ≡ 0
+    spelled-round : {p q : ℕ} {a b c : List ℕ} {at k after n start : ℕ} → n ≡ getD (s .arities) i 0 → (n ≡ 0 → ⊥) → start ≡ getD (s .starts) i 0 → getD (s .labels) start 0 ≡ 0
         → Wrote a b at k (nameAt s i) → Printed s (Many n) p q b c k after (roundText mode n) → Printed s (SpelledOf mode i) p q a c at after (spelledText mode i)
     spelled-round {p} {n = n} {start = start} m z u l w h = printed-as (λ table d ts us f v. go table d ts f) (behind w h)
       where
@@ -102,9 +115,9 @@ module _ {s : Slices} where
               ap₂ (λ (x y : Text). x ++ y) (name-is d i ctor) (rounded table n z ∙ ap₂ (λ (ls : List Text) (j : ℕ). argumentText mode table (prettyAt mode table) ls j (rowAt s p)) (sym (labels-none d i ctor (inr (ap (λ (j : ℕ). getD (s .labels) j 0) (sym u) ∙ l)))) e),
             )
 
-    pub spelled-fields : {p q : ℕ} {a b c d e : List ℕ} {at k l m after n start : ℕ} → n ≡ getD (s .arities) i 0 → (n ≡ 0 → ⊥) → start ≡ getD (s .starts) i 0 → (getD (s .labels) start 0 ≡ 0 → ⊥)
-        → Wrote a b at k (nameAt s i) → Wrote b c k l (bytes " { ") → Printed s (Many n) p q c d l m (fieldsText mode s start n) → Wrote d e m after (bytes " }") → Printed s (SpelledOf mode i) p q a e at after (spelledText mode i)
-    spelled-fields {p} {n = n} {start = start} g z u o w x h y = printed-as (λ table d ts us f v. go table d ts f) (behind w (around x h y))
+    spelled-fields : {p q : ℕ} {a b c : List ℕ} {at k after n start : ℕ} → n ≡ getD (s .arities) i 0 → (n ≡ 0 → ⊥) → start ≡ getD (s .starts) i 0 → (getD (s .labels) start 0 ≡ 0 → ⊥)
+        → Wrote a b at k (nameAt s i) → Printed s (Many n) p q b c k after (enclosedText mode s true start n) → Printed s (SpelledOf mode i) p q a c at after (spelledText mode i)
+    spelled-fields {p} {n = n} {start = start} g z u o w h = printed-as (λ table d ts us f v. go table d ts f) (behind w h)
       where
         braced : (table : Table) (ls : List Text) (j : ℕ) → (j ≡ 0 → ⊥) → j ≡ length ls → bytes " { " ++ commas (fieldTexts mode table (prettyAt mode table) ls (rowAt s p)) ++ bytes " }" ≡ argumentText mode table (prettyAt mode table) ls j (rowAt s p)
         braced table [] j y e = absurd (y e)
@@ -122,6 +135,12 @@ module _ {s : Slices} where
                   (ap (λ (us : List Text). bytes " { " ++ commas (fieldTexts mode table (prettyAt mode table) us (rowAt s p)) ++ bytes " }") (ap₂ (labelTexts s) u e ∙ ls .1)
                   ∙ braced table (ctorAt table (i / 32) (i % 32) .labels) (arity table (i / 32) (i % 32)) some (ls .0)),
             )
+
+    -- without labels, and with them
+    pub spelled-with : {p q : ℕ} {a b c : List ℕ} {at k after n start : ℕ} (labelled : Bool) → labelled ≡ not (eqb (getD (s .labels) (getD (s .starts) i 0) 0) 0) → n ≡ getD (s .arities) i 0 → (n ≡ 0 → ⊥) → start ≡ getD (s .starts) i 0
+        → Wrote a b at k (nameAt s i) → Printed s (Many n) p q b c k after (enclosedText mode s labelled start n) → Printed s (SpelledOf mode i) p q a c at after (spelledText mode i)
+    spelled-with false e m z u w h = spelled-round m z u (ap (λ (j : ℕ). getD (s .labels) j 0) u ∙ eqb-true _ 0 (not-false _ e)) w h
+    spelled-with true e m z u w h = spelled-fields m z u (λ v. eqb-false _ 0 (not-true _ e) (ap (λ (j : ℕ). getD (s .labels) j 0) (sym u) ∙ v)) w h
 
     -- the code's look is the definition's
     module _ (l : code.Look) (is : l ≡ lookOf (lookIn mode (s .bytes) (getD (s .kinds) (i / 32) 0) (i % 32) (getD (s .names) i 0))) where
@@ -209,7 +228,7 @@ module _ {s : Slices} where
           other table spelled u r = refl
 
     -- a field whose pattern is no wildcard
-    pub field-more : {q : ℕ} {a b c : List ℕ} {at k after : ℕ} (mode : Mode) (label : ℕ) → (n ≡ 0 → ⊥) → Wrote a b at k (labelText (textAt (s .bytes) label) (getD (s .nodes) p 0)) → Printed s (Many 1) p q b c k after (patternText mode alone) → Printed s (Many 1) p q a c at after (fieldTextAt mode s label)
+    field-more : {q : ℕ} {a b c : List ℕ} {at k after : ℕ} (mode : Mode) (label : ℕ) → (n ≡ 0 → ⊥) → Wrote a b at k (labelText (textAt (s .bytes) label) (getD (s .nodes) p 0)) → Printed s (Many 1) p q b c k after (patternText mode alone) → Printed s (Many 1) p q a c at after (fieldTextAt mode s label)
     field-more mode label z w h = single (λ table d t us v.
         let y = h .prints table d (t ∷ []) us (record { many = refl }) v in
         let x = wrote-as (sym (label-colon (textAt (s .bytes) label) (getD (s .nodes) p 0) (λ e. z (is ∙ e)))) w in
@@ -226,3 +245,16 @@ module _ {s : Slices} where
             go : (b : Bool) → ltb n 32768 ≡ b → (textAt (s .bytes) label ++ bytes ": ") ++ prettyAt mode table alone (rowAt s p) ≡ fieldTextAt mode s label table (rowAt s p)
             go true e = by-node table (rowAt s p) (rowAt s (p + 1)) _ (row-con s p v (positive z is) (omega (arith, ltb-true n 32768 e))) (λ c. clash (cc))
             go false e = by-node table (rowAt s p) (rowAt s (p + 1)) _ (row-lit s p v (omega (arith, ltb-false n 32768 e))) (λ c. clash (cc))
+
+  -- the pattern of a field: its label alone, or what stands before it and its text
+  module _ (p i : ℕ) (mode : Mode) where
+    pub field-bare : {a b : List ℕ} {at after : ℕ} (labelled : Bool) → true ≡ (labelled && eqb (getD (s .nodes) p 0) 0) → Wrote a b at after (fieldMark labelled (textAt (s .bytes) (getD (s .labels) i 0)) (getD (s .nodes) p 0)) → Printed s (Many 1) p (p + 1) a b at after (itemText mode s labelled i)
+    field-bare false e w = clash (cc)
+    field-bare true e w =
+        let z : getD (s .nodes) p 0 ≡ 0 = eqb-true (getD (s .nodes) p 0) 0 (sym e) in
+        wild-printed p (getD (s .nodes) p 0) refl z (λ table r. refl) (wrote-as (sym (label-wild (textAt (s .bytes) (getD (s .labels) i 0)) (getD (s .nodes) p 0) z)) w)
+
+    pub field-full : {q : ℕ} {a b c : List ℕ} {at k after : ℕ} (labelled : Bool) → false ≡ (labelled && eqb (getD (s .nodes) p 0) 0)
+        → Wrote a b at k (fieldMark labelled (textAt (s .bytes) (getD (s .labels) i 0)) (getD (s .nodes) p 0)) → Printed s (Many 1) p q b c k after (patternText mode alone) → Printed s (Many 1) p q a c at after (itemText mode s labelled i)
+    field-full false e w h = behind w h
+    field-full true e w h = field-more p (getD (s .nodes) p 0) refl mode (getD (s .labels) i 0) (eqb-false (getD (s .nodes) p 0) 0 (sym e)) w h

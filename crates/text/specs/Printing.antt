@@ -3,13 +3,14 @@ use mathlib.Core.Path.{_≡_}
 use mathlib.Core.List.{List, _∷_, _++_}
 use mathlib.Core.Bool.{Bool, true, false}
 use Prim.Native.Nat.{ℕ, _+_, _-_, _*_, _/_, _%_, _^_, _≤_, _<_}
-use lib.ListN.{length}
+use lib.ListN.{length, getD}
 use Rattle.scope.specs.Lists.{Text, bytes}
 use Rattle.scope.specs.Types.{Ref, Table, typeAt, kind, ctors, fieldsAt}
 use Rattle.scope.specs.Patterns.{Row}
 use Rattle.scope.specs.Text.{commas, skip, Mode, square, spelled, look, afterFirst, afterNext, Place, alone, inTail, texts, fieldText, fieldTexts, prettyCtor, prettyAt}
 use Rattle.layout.specs.Types.{textAt}
 use Rattle.writing.specs.Writing.{Wrote}
+use Rattle.marks.specs.Marks.{openText, closeText}
 use Rattle.text.specs.Rows.{Slices, Tabled, rowAt, labelTexts, Begins}
 
 -- The texts that the functions write, each of patterns that begin a row. One pattern, by itself or as the tail of a list
@@ -20,10 +21,6 @@ patternText mode place table r = prettyAt mode table place r
 abbrev pub textsText : Mode → ℕ → Table → Row → Text
 textsText mode n table r = commas (texts mode table (prettyAt mode table) n r)
 
--- n patterns in round brackets
-abbrev pub roundText : Mode → ℕ → Table → Row → Text
-roundText mode n table r = bytes "(" ++ textsText mode n table r ++ bytes ")"
-
 -- a field with the label that stands at a place
 abbrev pub fieldTextAt : Mode → Slices → ℕ → Table → Row → Text
 fieldTextAt mode s label table r = fieldText mode table (prettyAt mode table) (textAt (s .bytes) label) r
@@ -31,6 +28,20 @@ fieldTextAt mode s label table r = fieldText mode table (prettyAt mode table) (t
 -- n fields with their labels, from field i on, with ", " between them
 abbrev pub fieldsText : Mode → Slices → ℕ → ℕ → Table → Row → Text
 fieldsText mode s i n table r = commas (fieldTexts mode table (prettyAt mode table) (labelTexts s i n) r)
+
+-- the pattern of field i, without labels and with them
+abbrev pub itemText : Mode → Slices → Bool → ℕ → Table → Row → Text
+itemText mode s false i = patternText mode alone
+itemText mode s true i = fieldTextAt mode s (getD (s .labels) i 0)
+
+-- the patterns of n fields, from field i on
+abbrev pub itemsText : Mode → Slices → Bool → ℕ → ℕ → Table → Row → Text
+itemsText mode s false i n = textsText mode n
+itemsText mode s true i n = fieldsText mode s i n
+
+-- the same in brackets
+abbrev pub enclosedText : Mode → Slices → Bool → ℕ → ℕ → Table → Row → Text
+enclosedText mode s labelled i n table r = openText labelled ++ itemsText mode s labelled i n table r ++ closeText labelled
 
 -- the arguments of a list cell as a list
 abbrev pub squareText : Mode → Table → Row → Text

@@ -4,21 +4,23 @@ ghost use lib.ListN.{length};
 ghost use Rattle.scope.specs.Text.{alone, inTail};
 ghost use Rattle.naming.specs.Naming.{modeOf};
 ghost use Rattle.text.specs.Rows.{slices};
-ghost use Rattle.text.specs.Printing.{patternText, textsText, roundText, fieldTextAt, fieldsText, squareText, cellText, spelledText, ctorText, Many, FieldsOf, SpelledOf, CellOf, Printed, Room, Moved};
+ghost use Rattle.text.specs.Printing.{patternText, itemText, itemsText, enclosedText, squareText, cellText, spelledText, ctorText, Many, FieldsOf, SpelledOf, CellOf, Printed, Room, Moved};
 use cells::at8;
 use cells::at16;
 use cells::wide8;
 use cells::wide16;
+use marks::comma;
+use marks::dots;
+use marks::has_labels;
+use marks::is_bare;
+use marks::put_close;
+use marks::put_mark;
+use marks::put_open;
 use naming::name::Look;
 use naming::node::closes;
 use naming::node::look;
-use naming::node::put_label;
 use naming::node::put_name;
-use writing::all;
 use writing::byte;
-
-// What stands between two patterns.
-const COMMA: [u8; 2] = *b", ";
 
 // Where the text ends, and the place after the patterns.
 pub struct Spot {
@@ -26,64 +28,9 @@ pub struct Spot {
     pub p: usize,
 }
 
-// n patterns with ", " between them.
-fn texts(
-    paste: bool,
-    bytes: &[u8],
-    kinds: &[u8],
-    arities: &[u8],
-    starts: &[u16],
-    names: &[u16],
-    labels: &[u16],
-    nodes: &[u16],
-    p: usize,
-    n: usize,
-    out: &mut [u8],
-    at: usize,
-) -> Spot
-    requires { ⌜ Room (length (now nodes)) p at n (514 * n) ⌝ }
-    ensures { λ r. ⌜ Moved (length (now (nodes .entry))) p at (r .p) (r .at) 0 n (514 * n) ⌝ }
-    ensures { λ r. ⌜ Printed (slices (now (bytes .entry)) (now (kinds .entry)) (now (arities .entry)) (now (starts .entry)) (now (names .entry)) (now (labels .entry)) (now (nodes .entry))) (Many n) p (r .p) (now (out .entry)) (now (out .exit)) at (r .at) (textsText (modeOf paste) n) ⌝ }
-{
-    if n == 0 {
-        return Spot { at, p };
-    }
-    let one = pretty(
-        paste,
-        bytes,
-        kinds,
-        arities,
-        starts,
-        names,
-        labels,
-        nodes,
-        p,
-        out,
-        at,
-    );
-    if n == 1 {
-        return one;
-    }
-    let comma = COMMA;
-    let next = all(out, one.at, &comma);
-    texts(
-        paste,
-        bytes,
-        kinds,
-        arities,
-        starts,
-        names,
-        labels,
-        nodes,
-        one.p,
-        n - 1,
-        out,
-        next,
-    )
-}
-
-// A field with its label: the label alone for a wildcard.
+// The pattern of field i; where there are labels, behind its label: the label alone for a wildcard.
 fn field(
+    labelled: bool,
     paste: bool,
     bytes: &[u8],
     kinds: &[u8],
@@ -93,16 +40,16 @@ fn field(
     labels: &[u16],
     nodes: &[u16],
     p: usize,
-    label: usize,
+    i: usize,
     out: &mut [u8],
     at: usize,
 ) -> Spot
     requires { ⌜ Room (length (now nodes)) p at 1 1022 ⌝ }
     ensures { λ r. ⌜ Moved (length (now (nodes .entry))) p at (r .p) (r .at) 1 1 1022 ⌝ }
-    ensures { λ r. ⌜ Printed (slices (now (bytes .entry)) (now (kinds .entry)) (now (arities .entry)) (now (starts .entry)) (now (names .entry)) (now (labels .entry)) (now (nodes .entry))) (Many 1) p (r .p) (now (out .entry)) (now (out .exit)) at (r .at) (fieldTextAt (modeOf paste) (slices (now (bytes .entry)) (now (kinds .entry)) (now (arities .entry)) (now (starts .entry)) (now (names .entry)) (now (labels .entry)) (now (nodes .entry))) label) ⌝ }
+    ensures { λ r. ⌜ Printed (slices (now (bytes .entry)) (now (kinds .entry)) (now (arities .entry)) (now (starts .entry)) (now (names .entry)) (now (labels .entry)) (now (nodes .entry))) (Many 1) p (r .p) (now (out .entry)) (now (out .exit)) at (r .at) (itemText (modeOf paste) (slices (now (bytes .entry)) (now (kinds .entry)) (now (arities .entry)) (now (starts .entry)) (now (names .entry)) (now (labels .entry)) (now (nodes .entry))) labelled i) ⌝ }
 {
-    let next = put_label(bytes, nodes, p, label, out, at);
-    if at16(nodes, p) == 0 {
+    let next = put_mark(labelled, bytes, labels, nodes, p, i, out, at);
+    if is_bare(labelled, nodes, p) {
         let q = p + 1;
         return Spot { at: next, p: q };
     }
@@ -121,8 +68,9 @@ fn field(
     )
 }
 
-// n fields with labels, from field i on, with ", " between them.
+// The patterns of n fields, from field i on, with ", " between them.
 fn fields(
+    labelled: bool,
     paste: bool,
     bytes: &[u8],
     kinds: &[u8],
@@ -140,12 +88,13 @@ fn fields(
     requires { ⌜ Room (length (now nodes)) p at n (1024 * n) ⌝ }
     requires { ⌜ i + n < 2 ^ 32 ⌝ }
     ensures { λ r. ⌜ Moved (length (now (nodes .entry))) p at (r .p) (r .at) 0 n (1024 * n) ⌝ }
-    ensures { λ r. ⌜ Printed (slices (now (bytes .entry)) (now (kinds .entry)) (now (arities .entry)) (now (starts .entry)) (now (names .entry)) (now (labels .entry)) (now (nodes .entry))) (Many n) p (r .p) (now (out .entry)) (now (out .exit)) at (r .at) (fieldsText (modeOf paste) (slices (now (bytes .entry)) (now (kinds .entry)) (now (arities .entry)) (now (starts .entry)) (now (names .entry)) (now (labels .entry)) (now (nodes .entry))) i n) ⌝ }
+    ensures { λ r. ⌜ Printed (slices (now (bytes .entry)) (now (kinds .entry)) (now (arities .entry)) (now (starts .entry)) (now (names .entry)) (now (labels .entry)) (now (nodes .entry))) (Many n) p (r .p) (now (out .entry)) (now (out .exit)) at (r .at) (itemsText (modeOf paste) (slices (now (bytes .entry)) (now (kinds .entry)) (now (arities .entry)) (now (starts .entry)) (now (names .entry)) (now (labels .entry)) (now (nodes .entry))) labelled i n) ⌝ }
 {
     if n == 0 {
         return Spot { at, p };
     }
     let one = field(
+        labelled,
         paste,
         bytes,
         kinds,
@@ -155,16 +104,16 @@ fn fields(
         labels,
         nodes,
         p,
-        wide16(at16(labels, i)),
+        i,
         out,
         at,
     );
     if n == 1 {
         return one;
     }
-    let comma = COMMA;
-    let next = all(out, one.at, &comma);
+    let next = comma(out, one.at);
     fields(
+        labelled,
         paste,
         bytes,
         kinds,
@@ -181,8 +130,9 @@ fn fields(
     )
 }
 
-// n patterns in round brackets.
-fn round(
+// The patterns of n fields in brackets.
+fn enclosed(
+    labelled: bool,
     paste: bool,
     bytes: &[u8],
     kinds: &[u8],
@@ -192,17 +142,20 @@ fn round(
     labels: &[u16],
     nodes: &[u16],
     p: usize,
+    i: usize,
     n: usize,
     out: &mut [u8],
     at: usize,
 ) -> Spot
-    requires { ⌜ Room (length (now nodes)) p at 255 131072 ⌝ }
+    requires { ⌜ Room (length (now nodes)) p at 255 261632 ⌝ }
     requires { ⌜ n < 256 ⌝ }
-    ensures { λ r. ⌜ Moved (length (now (nodes .entry))) p at (r .p) (r .at) 0 255 131072 ⌝ }
-    ensures { λ r. ⌜ Printed (slices (now (bytes .entry)) (now (kinds .entry)) (now (arities .entry)) (now (starts .entry)) (now (names .entry)) (now (labels .entry)) (now (nodes .entry))) (Many n) p (r .p) (now (out .entry)) (now (out .exit)) at (r .at) (roundText (modeOf paste) n) ⌝ }
+    requires { ⌜ i < 65536 ⌝ }
+    ensures { λ r. ⌜ Moved (length (now (nodes .entry))) p at (r .p) (r .at) 0 255 261632 ⌝ }
+    ensures { λ r. ⌜ Printed (slices (now (bytes .entry)) (now (kinds .entry)) (now (arities .entry)) (now (starts .entry)) (now (names .entry)) (now (labels .entry)) (now (nodes .entry))) (Many n) p (r .p) (now (out .entry)) (now (out .exit)) at (r .at) (enclosedText (modeOf paste) (slices (now (bytes .entry)) (now (kinds .entry)) (now (arities .entry)) (now (starts .entry)) (now (names .entry)) (now (labels .entry)) (now (nodes .entry))) labelled i n) ⌝ }
 {
-    let open = byte(out, at, b'(');
-    let inner = texts(
+    let start = put_open(labelled, out, at);
+    let inner = fields(
+        labelled,
         paste,
         bytes,
         kinds,
@@ -212,13 +165,14 @@ fn round(
         labels,
         nodes,
         p,
+        i,
         n,
         out,
-        open,
+        start,
     );
-    let close = byte(out, inner.at, b')');
+    let end = put_close(labelled, out, inner.at);
     Spot {
-        at: close,
+        at: end,
         p: inner.p,
     }
 }
@@ -288,26 +242,8 @@ fn spelled(
     if n == 0 {
         return Spot { at: next, p };
     }
-    let start = wide16(at16(starts, i));
-    if at16(labels, start) == 0 {
-        return round(
-            paste,
-            bytes,
-            kinds,
-            arities,
-            starts,
-            names,
-            labels,
-            nodes,
-            p,
-            n,
-            out,
-            next,
-        );
-    }
-    let brace = *b" { ";
-    let open = all(out, next, &brace);
-    let inner = fields(
+    enclosed(
+        has_labels(starts, labels, i),
         paste,
         bytes,
         kinds,
@@ -317,17 +253,11 @@ fn spelled(
         labels,
         nodes,
         p,
-        start,
+        wide16(at16(starts, i)),
         n,
         out,
-        open,
-    );
-    let end = *b" }";
-    let close = all(out, inner.at, &end);
-    Spot {
-        at: close,
-        p: inner.p,
-    }
+        next,
+    )
 }
 
 // A constructor by itself, whose arguments stand from p on.
@@ -352,7 +282,8 @@ fn ctor(
 {
     let shape = look(paste, bytes, kinds, names, i);
     match shape {
-        Look::Round => round(
+        Look::Round => enclosed(
+            false,
             paste,
             bytes,
             kinds,
@@ -362,6 +293,7 @@ fn ctor(
             labels,
             nodes,
             p,
+            0,
             wide8(at8(arities, i)),
             out,
             at,
@@ -475,8 +407,7 @@ fn cell(
         let q = one.p + 1;
         return Spot { at: one.at, p: q };
     }
-    let comma = COMMA;
-    let next = all(out, one.at, &comma);
+    let next = comma(out, one.at);
     pretty_tail(
         paste,
         bytes,
@@ -513,8 +444,7 @@ fn pretty_tail(
     let q = p + 1;
     let node = at16(nodes, p);
     if node == 0 {
-        let dots = *b"..";
-        let next = all(out, at, &dots);
+        let next = dots(out, at);
         return Spot { at: next, p: q };
     }
     if 32768 <= node {
