@@ -1,10 +1,12 @@
-// Many files in one process: each with its length before it in decimal and a line feed, and so each answer.
+// Many files in one process: each with its length before it in decimal and a line feed, and so each answer. After a length may stand a
+// blank, the cells of scratch to lend, a blank, and the bytes of report to lend; else all of both are lent.
 use block::print::print;
 ghost use Prim.Native.Nat.{_≤_, _<_};
 ghost use lib.ListN.{length};
 
-pub enum Length {
-    Is(usize),
+pub enum Number {
+    Last(usize),
+    More(usize),
     Bad,
     End,
 }
@@ -40,34 +42,39 @@ fn with_digit(n: usize, b: u16) -> usize
     (n * 10 + value(b - 48)) % 1000000
 }
 
-// A length: one digit or more, six of them at most, and a line feed.
-fn read_length() -> Length {
+// A number of i digits, and the byte after it, which is none.
+fn ended(n: usize, i: usize, b: u16) -> Number {
+    if i == 0 {
+        if b == 256 {
+            return Number::End;
+        }
+        return Number::Bad;
+    }
+    if b == 10 {
+        return Number::Last(n);
+    }
+    if b == 32 {
+        return Number::More(n);
+    }
+    Number::Bad
+}
+
+// A number: one digit or more, six of them at most, and a line feed or a blank.
+fn read_number() -> Number {
     let mut n: usize = 0;
     let mut i: usize = 0;
     while i < 7 {
         let b = next();
-        if b == 256 {
-            if i == 0 {
-                return Length::End;
-            }
-            return Length::Bad;
-        }
-        if b == 10 {
-            if i == 0 {
-                return Length::Bad;
-            }
-            return Length::Is(n);
-        }
         if b < 48 {
-            return Length::Bad;
+            return ended(n, i, b);
         }
         if 57 < b {
-            return Length::Bad;
+            return ended(n, i, b);
         }
         n = with_digit(n, b);
         i += 1;
     }
-    Length::Bad
+    Number::Bad
 }
 
 // The first k bytes of a file, as many as there are.
@@ -86,13 +93,25 @@ fn skip(n: usize) {
     }
 }
 
-// What is printed for the first k bytes, in the buffer; its length.
-fn print_first(file: &[u8], k: usize, scratch: &mut [u16], report: &mut [u8]) -> usize
+// The first k bytes of a file of n; false where the input ends within it.
+fn filled(file: &mut [u8], k: usize, n: usize) -> bool
     requires { ⌜ k ≤ length (now file) ⌝ }
-    requires { ⌜ 64 ≤ length (now report) ⌝ }
-    ensures { λ r. ⌜ r ≤ length (now (report .entry)) ⌝ }
+    requires { ⌜ k ≤ n ⌝ }
 {
-    print(&file[..k], scratch, report)
+    let got = fill(file, k);
+    if got < k {
+        return false;
+    }
+    skip(n - k);
+    true
+}
+
+// The lesser of two numbers.
+fn least(a: usize, b: usize) -> usize
+    ensures { λ r. ⌜ r ≤ a ⌝ }
+    ensures { λ r. ⌜ r ≤ b ⌝ }
+{
+    if a < b { a } else { b }
 }
 
 // The first m bytes of a report, with their number before them.
@@ -105,54 +124,71 @@ fn write_first(report: &[u8], m: usize)
     io::write_all(1, &report[..m]);
 }
 
-// The lesser of two numbers.
-fn least(a: usize, b: usize) -> usize
-    ensures { λ r. ⌜ r ≤ a ⌝ }
-    ensures { λ r. ⌜ r ≤ b ⌝ }
+// The answer for the first k bytes with so many cells and so much room, as far as the buffer holds it.
+fn put(file: &[u8], k: usize, scratch: &mut [u16], cells: usize, report: &mut [u8], room: usize)
+    requires { ⌜ k ≤ length (now file) ⌝ }
+    requires { ⌜ cells ≤ length (now scratch) ⌝ }
+    requires { ⌜ room ≤ length (now report) ⌝ }
 {
-    if a < b { a } else { b }
+    let m = print(&file[..k], &mut scratch[..cells], &mut report[..room]);
+    write_first(report, least(m, room));
 }
 
-// The answer for a file of n bytes, of which 49,153 are enough to refuse it; false where the input ends within it.
-fn answer(n: usize) -> bool {
+// A line on standard error; false.
+fn complain(what: &[u8]) -> bool {
+    io::write_all(2, what);
+    false
+}
+
+// The input is no stream of files.
+fn no_length() -> bool {
+    let what = *b"replay: no length before a file\n";
+    complain(&what)
+}
+
+// It ends too soon.
+fn cut_short() -> bool {
+    let what = *b"replay: the input ends within a file\n";
+    complain(&what)
+}
+
+// The answer for a file of n bytes, of which 49,153 are enough to refuse it.
+fn answer(n: usize, cells: usize, room: usize) -> bool
+    requires { ⌜ cells ≤ 16384 ⌝ }
+    requires { ⌜ room ≤ 32768 ⌝ }
+{
     let mut file = [0u8; 49153];
     let mut scratch = [0u16; 16384];
     let mut report = [0u8; 32768];
     let k = least(n, 49153);
-    let got = fill(&mut file, k);
-    if got < k {
-        return false;
+    if !filled(&mut file, k, n) {
+        return cut_short();
     }
-    skip(n - k);
-    let m = print_first(&file, k, &mut scratch, &mut report);
-    write_first(&report, m);
+    put(&file, k, &mut scratch, cells, &mut report, room);
     true
 }
 
-// A line on standard error.
-fn complain(what: &[u8]) {
-    io::write_all(2, what);
+// The answer for a file of n bytes, after what is to be lent.
+fn lent(n: usize) -> bool {
+    let cells = read_number();
+    let Number::More(c) = cells else {
+        return no_length();
+    };
+    let room = read_number();
+    let Number::Last(r) = room else {
+        return no_length();
+    };
+    answer(n, least(c, 16384), least(r, 32768))
 }
 
 // One file of the input; false at its end, or where it is no stream of files.
 fn step() -> bool {
-    let l = read_length();
+    let l = read_number();
     match l {
-        Length::End => false,
-        Length::Bad => {
-            let what =
-                *b"replay: no length: one to six digits and a line feed stand before each file\n";
-            complain(&what);
-            false
-        }
-        Length::Is(n) => {
-            if answer(n) {
-                return true;
-            }
-            let what = *b"replay: the input ends within a file\n";
-            complain(&what);
-            false
-        }
+        Number::End => false,
+        Number::Bad => no_length(),
+        Number::Last(n) => answer(n, 16384, 32768),
+        Number::More(n) => lent(n),
     }
 }
 
