@@ -4,7 +4,7 @@ ghost use lib.ListN.{length};
 ghost use Rattle.scope.specs.Types.{Table};
 ghost use Rattle.scope.specs.Report.{Findings, gapLines, report as reportText};
 ghost use Rattle.writing.specs.Writing.{Wrote};
-ghost use Rattle.naming.specs.Naming.{modeOf};
+ghost use Rattle.looks.specs.Nodes.{modeOf};
 ghost use Rattle.text.specs.Rows.{slices};
 ghost use Rattle.text.specs.Printing.{Many, Printed};
 ghost use Rattle.lines.specs.Findings.{gapWord, gapText, gapsText, Says, Small};

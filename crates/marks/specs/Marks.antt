@@ -3,7 +3,7 @@ use mathlib.Core.List.{[]}
 use mathlib.Core.Bool.{Bool, true, false}
 use Prim.Native.Nat.{ℕ}
 use Rattle.scope.specs.Lists.{Text, bytes}
-use Rattle.naming.specs.Naming.{labelText}
+use Rattle.looks.specs.Nodes.{labelText}
 
 -- the bracket before arguments, without labels and with them
 abbrev pub openText : Bool → Text

@@ -10,7 +10,7 @@ ghost use Rattle.writing.specs.Writing.{Wrote};
 ghost use Rattle.marks.specs.Marks.{openText, closeText, fieldMark};
 use cells::at16;
 use cells::wide16;
-use naming::node::put_label;
+use looks::put_label;
 use writing::all;
 
 // What stands between two patterns.

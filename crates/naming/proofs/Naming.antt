@@ -2,12 +2,10 @@
 use mathlib.Core.Path.{_≡_, refl, ap, ap₂, sym, _∙_}
 use mathlib.Core.List.{List, []}
 use mathlib.Core.Bool.{Bool, true, false, cond, _&&_, _||_}
-use Prim.Native.Nat.{ℕ, zero, suc, _+_, _-_, _≤_, _<_}
+use Prim.Native.Nat.{ℕ, zero, suc, _≤_, _<_}
 use mathlib.Core.Logic.{_⊎_, inl, inr}
 use native.Mathlib.Omega.{arith}
-use native.Mathlib.Numerals.{add-one}
-use lib.ListN.{length, getD, take, drop, length-take, length-drop, drop-of-length-le}
-use lib.Seq.{take-all, take-nil}
+use lib.ListN.{length, getD}
 use lib.Dec.{eqb}
 use borrow.Author.Tests.{ne-eqb}
 use Rattle.scope.specs.Lists.{Text, same}
@@ -15,29 +13,6 @@ use Rattle.scope.specs.Types.{Ref, Ty, integer, byteString, opaque, list, tuple
 use Rattle.scope.specs.Text.{contains, round, square, spelled, lookByName, lookByKind}
 use Rattle.layout.specs.Types.{textAt}
 use Rattle.naming.specs.Naming.{nameIn, NameAt}
-
--- a label past the end of the bytes is empty
-pub label-out : (bytes : List ℕ) (p : ℕ) → length bytes ≤ p → [] ≡ textAt bytes p
-unfolding textAt
-label-out bytes p h = let l : length bytes ≤ suc p = omega arith in sym (ap (take (getD bytes p 0)) (drop-of-length-le bytes l) ∙ take-nil (getD bytes p 0))
-
--- a label that the end of the bytes cuts
-pub label-cut : (bytes : List ℕ) (p n : ℕ) → n ≡ getD bytes p 0 → length bytes - p - 1 < n → take (length bytes - (p + 1)) (drop (p + 1) bytes) ≡ textAt bytes p
-unfolding textAt
-label-cut bytes p n e h =
-    let short : length (drop (p + 1) bytes) ≤ length bytes - (p + 1) = omega (arith, length-drop (p + 1) bytes) in
-    let cut : length (drop (p + 1) bytes) ≤ getD bytes p 0 = omega (arith, length-drop (p + 1) bytes) in
-    take-all (length bytes - (p + 1)) (drop (p + 1) bytes) short ∙ sym (take-all (getD bytes p 0) (drop (p + 1) bytes) cut) ∙ ap (λ (j : ℕ). take (getD bytes p 0) (drop j bytes)) (add-one p)
-
--- a label that stands whole
-pub label-whole : (bytes : List ℕ) (p n : ℕ) → n ≡ getD bytes p 0 → take (p + 1 + n - (p + 1)) (drop (p + 1) bytes) ≡ textAt bytes p
-unfolding textAt
-label-whole bytes p n e = let l : p + 1 + n - (p + 1) ≡ getD bytes p 0 = omega arith in ap (λ (k : ℕ). take k (drop (p + 1) bytes)) l ∙ ap (λ (j : ℕ). take (getD bytes p 0) (drop j bytes)) (add-one p)
-
--- what `label_at` promises, from a length of one byte
-pub label-short : {r : Text} (bytes : List ℕ) (p n : ℕ) → n ≡ getD bytes p 0 → n < 256 → r ≡ textAt bytes p → (r ≡ textAt bytes p) × (length r ≤ 255)
-unfolding textAt
-label-short bytes p n e h f = (f, omega (arith, ap length f, length-take (getD bytes p 0) (drop (suc p) bytes)))
 
 -- `nameIn`, kind by kind
 pub name-cons : (bytes : List ℕ) (k c place : ℕ) → k ≡ 3 → c ≡ 0 → consName ≡ nameIn bytes k c place

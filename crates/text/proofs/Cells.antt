@@ -17,7 +17,7 @@ use Rattle.scope.proofs.Tests.{clash, both}
 use Rattle.layout.specs.Nodes.{literalAt}
 use Rattle.writing.specs.Writing.{Wrote}
 use Rattle.text.specs.Rows.{Slices, Tabled, rowAt, Begins}
-use Rattle.naming.specs.Naming.{modeOf, nilNode}
+use Rattle.looks.specs.Nodes.{modeOf, nilNode}
 use Rattle.text.specs.Printing.{patternText, restText, cellText, Many, CellOf, Printed}
 use Rattle.writing.proofs.Writing.{wrote-more, wrote-as}
 use Rattle.text.proofs.Rows.{Opened, opened, row-wild, row-lit, row-con, skip-none, skip-add, begins-skip}

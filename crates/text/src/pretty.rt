@@ -2,7 +2,7 @@
 ghost use Prim.Native.Nat.{_+_, _*_, _^_, _<_};
 ghost use lib.ListN.{length};
 ghost use Rattle.scope.specs.Text.{alone, inTail};
-ghost use Rattle.naming.specs.Naming.{modeOf};
+ghost use Rattle.looks.specs.Nodes.{modeOf};
 ghost use Rattle.text.specs.Rows.{slices};
 ghost use Rattle.text.specs.Printing.{patternText, itemText, itemsText, enclosedText, squareText, cellText, spelledText, ctorText, Many, FieldsOf, SpelledOf, CellOf, Printed, Room, Moved};
 use cells::at8;
@@ -16,10 +16,10 @@ use marks::is_bare;
 use marks::put_close;
 use marks::put_mark;
 use marks::put_open;
-use naming::name::Look;
-use naming::node::closes;
-use naming::node::look;
-use naming::node::put_name;
+use naming::Look;
+use looks::closes;
+use looks::look;
+use looks::put_name;
 use writing::byte;
 
 // Where the text ends, and the place after the patterns.

@@ -1,7 +1,7 @@
 -- `gap_text` meets its contract: the word, the pattern's text, the line feed.
 use mathlib.Core.Path.{_∙_}
 use native.Mathlib.Omega.{arith}
-use Rattle.naming.specs.Naming.{modeOf}
+use Rattle.looks.specs.Nodes.{modeOf}
 use Rattle.lines.proofs.Gaps.{text-printed}
 use Rattle.lines.proofs.gap_text.Statement.{statement}
 use Rattle.lines.proofs.gap_text.Tie as tie

@@ -2,7 +2,7 @@
 use mathlib.Core.Path.{refl, ap, sym}
 use mathlib.Core.Bool.{Bool}
 use native.Mathlib.Omega.{arith}
-use Rattle.naming.specs.Naming.{modeOf}
+use Rattle.looks.specs.Nodes.{modeOf}
 use Rattle.writing.proofs.Writing.{wrote-as}
 use Rattle.lines.specs.Findings.{gapWord}
 use Rattle.lines.proofs.gap_word.Statement.{statement}

@@ -6,8 +6,8 @@ use borrow.Author.Needs.{needs}
 use lib.ListN.{length}
 use denote.Enum.Declared.{tagOf, declared}
 use Rattle.scope.specs.Text.{alone, inTail}
-use Rattle.naming.proofs.name.Look as Look
-use Rattle.naming.specs.Naming.{modeOf}
+use Rattle.naming.proofs.Look as Look
+use Rattle.looks.specs.Nodes.{modeOf}
 use Rattle.text.proofs.Rows.{inside}
 use Rattle.text.proofs.Moves.{fields-moved}
 use Rattle.text.proofs.Looks.{not-one}
@@ -55,9 +55,9 @@ use Rattle.marks.proofs.has_labels.Reads as has-labels-reads
 use Rattle.marks.proofs.is_bare.Reads as is-bare-reads
 use Rattle.marks.proofs.put_open.Reads as put-open-reads
 use Rattle.marks.proofs.put_mark.Reads as put-mark-reads
-use Rattle.naming.proofs.node.closes.Reads as closes-reads
-use Rattle.naming.proofs.node.look.Reads as look-reads
-use Rattle.naming.proofs.node.put_name.Reads as put-name-reads
+use Rattle.looks.proofs.closes.Reads as closes-reads
+use Rattle.looks.proofs.look.Reads as look-reads
+use Rattle.looks.proofs.put_name.Reads as put-name-reads
 use Rattle.writing.proofs.byte.Reads as byte-reads
 use Rattle.text.proofs.pretty.+cell+ctor+enclosed+field+fields+pretty+pretty_tail+spelled+square.{
   statement,

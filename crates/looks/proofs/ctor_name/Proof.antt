@@ -1,10 +1,10 @@
--- `node::ctor_name` meets its contract.
+-- `looks::ctor_name` meets its contract.
 use mathlib.Core.Path.{ap₂, _∙_}
 use Prim.Native.Nat.{ℕ, _%_}
 use Rattle.naming.specs.Naming.{nameIn}
 use borrow.Author.Needs.{needs}
-use Rattle.naming.proofs.node.ctor_name.Statement.{statement}
-use Rattle.naming.proofs.node.ctor_name.Tie as tie
+use Rattle.looks.proofs.ctor_name.Statement.{statement}
+use Rattle.looks.proofs.ctor_name.Tie as tie
 
 at8-requires : tie.Need-at8-requires
 at8-requires c κs = search needs

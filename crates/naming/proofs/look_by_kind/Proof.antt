@@ -1,10 +1,10 @@
--- `name::look_by_kind` meets its contract.
+-- `naming::look_by_kind` meets its contract.
 use mathlib.Core.Path.{sym, ap}
 use mathlib.Core.Logic.{inl, inr}
 use Rattle.naming.specs.Naming.{lookOf}
 use Rattle.naming.proofs.Naming.{kind-round, kind-square, kind-nil, kind-spelled}
-use Rattle.naming.proofs.name.look_by_kind.Statement.{statement}
-use Rattle.naming.proofs.name.look_by_kind.Tie as tie
+use Rattle.naming.proofs.look_by_kind.Statement.{statement}
+use Rattle.naming.proofs.look_by_kind.Tie as tie
 
 returns : tie.Need-returns
 returns c =

@@ -5,15 +5,16 @@ ghost use Prim.Native.Nat.{_+_, _/_, _%_, _^_, _<_, _≤_};
 ghost use lib.ListN.{length, getD};
 ghost use Rattle.layout.specs.Types.{textAt};
 ghost use Rattle.writing.specs.Writing.{Wrote};
-ghost use Rattle.naming.specs.Naming.{fixedNames, nameIn, lookOf, modeOf, lookIn, nilNode, labelText};
-use crate::name::Look;
-use crate::name::label_at;
-use crate::name::look_by_kind;
-use crate::name::look_by_name;
-use crate::name::name_of;
+ghost use Rattle.naming.specs.Naming.{fixedNames, nameIn, lookOf};
+ghost use Rattle.looks.specs.Nodes.{modeOf, lookIn, nilNode, labelText};
 use cells::at8;
 use cells::at16;
 use cells::wide16;
+use layout::name_at;
+use naming::Look;
+use naming::look_by_kind;
+use naming::look_by_name;
+use naming::name_of;
 use writing::all;
 
 // Whether the node at p is "[]" of a list.
@@ -108,7 +109,7 @@ pub fn put_label(
     ensures { λ r. ⌜ Wrote (now (out .entry)) (now (out .exit)) at r (labelText (textAt (now (bytes .entry)) label) (getD (now (nodes .entry)) p 0)) ⌝ }
     ensures { λ r. ⌜ r ≤ at + 257 ⌝ }
 {
-    let next = all(out, at, label_at(bytes, label));
+    let next = all(out, at, name_at(bytes, label));
     if at16(nodes, p) == 0 {
         return next;
     }

@@ -1,14 +1,14 @@
--- `node::is_nil` meets its contract.
+-- `looks::is_nil` meets its contract.
 use mathlib.Core.Path.{_≡_, sym, subst, _∙_}
 use mathlib.Core.Bool.{false}
 use Prim.Native.Nat.{ℕ, _-_, _%_}
 use lib.ListN.{getD}
 use lib.Dec.{eqb}
-use Rattle.naming.specs.Naming.{nilNode}
-use Rattle.naming.proofs.Nodes.{nil-zero, nil-kind, nil-number}
+use Rattle.looks.specs.Nodes.{nilNode}
+use Rattle.looks.proofs.Nodes.{nil-zero, nil-kind, nil-number}
 use borrow.Author.Needs.{needs}
-use Rattle.naming.proofs.node.is_nil.Statement.{statement}
-use Rattle.naming.proofs.node.is_nil.Tie as tie
+use Rattle.looks.proofs.is_nil.Statement.{statement}
+use Rattle.looks.proofs.is_nil.Tie as tie
 
 at16-requires : tie.Need-at16-requires
 at16-requires c κs = search needs

@@ -1,13 +1,13 @@
--- `node::look` meets its contract: by the kind in the paste text, by the name in the source's.
+-- `looks::look` meets its contract: by the kind in the paste text, by the name in the source's.
 use mathlib.Core.Path.{ap, _∙_}
 use Prim.Native.Nat.{ℕ, _/_, _%_}
 use lib.ListN.{getD}
 use Rattle.scope.specs.Text.{lookByKind}
 use Rattle.naming.specs.Naming.{lookOf}
-use Rattle.naming.proofs.Nodes.{look-pasted, look-source}
+use Rattle.looks.proofs.Nodes.{look-pasted, look-source}
 use borrow.Author.Needs.{needs}
-use Rattle.naming.proofs.node.look.Statement.{statement}
-use Rattle.naming.proofs.node.look.Tie as tie
+use Rattle.looks.proofs.look.Statement.{statement}
+use Rattle.looks.proofs.look.Tie as tie
 
 at8-requires : tie.Need-at8-requires
 at8-requires c κs = search needs

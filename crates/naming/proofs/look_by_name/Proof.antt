@@ -1,10 +1,10 @@
--- `name::look_by_name` meets its contract.
+-- `naming::look_by_name` meets its contract.
 use mathlib.Core.Path.{sym, ap, _∙_}
 use Rattle.naming.specs.Naming.{lookOf}
 use Rattle.naming.proofs.Naming.{name-round, name-square, name-spelled}
 use borrow.Author.Needs.{needs}
-use Rattle.naming.proofs.name.look_by_name.Statement.{statement}
-use Rattle.naming.proofs.name.look_by_name.Tie as tie
+use Rattle.naming.proofs.look_by_name.Statement.{statement}
+use Rattle.naming.proofs.look_by_name.Tie as tie
 
 contains-requires : tie.Need-contains-requires
 contains-requires c κs = search needs

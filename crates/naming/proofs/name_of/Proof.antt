@@ -1,12 +1,12 @@
--- `name::name_of` meets its contract: a part of the fixed names, or the name among the bytes.
+-- `naming::name_of` meets its contract: a part of the fixed names, or the name among the bytes.
 use mathlib.Core.Path.{ap, _∙_}
 use native.Mathlib.Omega.{arith}
 use lib.ListN.{length, take, drop}
 use Rattle.scope.specs.Lists.{Text}
 use Rattle.naming.proofs.Naming.{name-cons, name-nil, name-tuple, name-declared, both-ways}
 use borrow.Author.Needs.{needs}
-use Rattle.naming.proofs.name.name_of.Statement.{statement}
-use Rattle.naming.proofs.name.name_of.Tie as tie
+use Rattle.naming.proofs.name_of.Statement.{statement}
+use Rattle.naming.proofs.name_of.Tie as tie
 
 sub-result : tie.Need-sub-result
 sub-result c = search needs
@@ -53,13 +53,13 @@ returns-3 c =
     let a = c .before .before .before .before .before .args in
     both-ways (a .bytes .now) (a .kind) (a .c) (a .place) (ap (λ (x : Text). take 7 (drop 4 x)) (c .before .before .before .before .before .pre) ∙ name-tuple (a .bytes .now) (a .kind) (a .c) (a .place) (c .before .before .if1 .left) (c .before .if3 .taken)) (omega (arith, ap (λ (x : Text). length (take 7 (drop 4 x))) (c .before .before .before .before .before .pre)))
 
-label-at-requires : tie.Need-label-at-requires
-label-at-requires c κs = search needs
+name-at-requires : tie.Need-name-at-requires
+name-at-requires c κs = search needs
 
 returns-4 : tie.Need-returns-4
 returns-4 c =
     let a = c .before .before .before .before .before .args in
-    both-ways (a .bytes .now) (a .kind) (a .c) (a .place) (c .label-at .ensures .0 ∙ name-declared (a .bytes .now) (a .kind) (a .c) (a .place) (c .before .if3 .left)) (c .label-at .ensures .1)
+    both-ways (a .bytes .now) (a .kind) (a .c) (a .place) (c .name-at .ensures .0 ∙ name-declared (a .bytes .now) (a .kind) (a .c) (a .place) (c .before .if3 .left)) (c .name-at .ensures .1)
 
 pub name-of-spec : {M : Type 1} → statement M
 name-of-spec =
@@ -77,5 +77,5 @@ name-of-spec =
     part-result-start-3
     part-result-end-3
     returns-3
-    label-at-requires
+    name-at-requires
     returns-4)

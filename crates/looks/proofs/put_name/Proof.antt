@@ -1,9 +1,9 @@
--- `node::put_name` meets its contract.
+-- `looks::put_name` meets its contract.
 use native.Mathlib.Omega.{arith}
 use Rattle.writing.proofs.Writing.{wrote-as}
 use borrow.Author.Needs.{needs}
-use Rattle.naming.proofs.node.put_name.Statement.{statement}
-use Rattle.naming.proofs.node.put_name.Tie as tie
+use Rattle.looks.proofs.put_name.Statement.{statement}
+use Rattle.looks.proofs.put_name.Tie as tie
 
 fixed-names-requires : tie.Need-fixed-names-requires
 fixed-names-requires c κs = search needs

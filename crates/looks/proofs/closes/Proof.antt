@@ -1,13 +1,13 @@
--- `node::closes` meets its contract.
+-- `looks::closes` meets its contract.
 use mathlib.Core.Path.{ap, ap₂}
 use mathlib.Core.Bool.{Bool, _||_}
 use lib.ListN.{getD}
 use borrow.Author.Tests.{not-true, not-false}
-use Rattle.naming.specs.Naming.{nilNode}
-use Rattle.naming.proofs.Nodes.{closes-is, closes-not}
+use Rattle.looks.specs.Nodes.{nilNode}
+use Rattle.looks.proofs.Nodes.{closes-is, closes-not}
 use borrow.Author.Needs.{needs}
-use Rattle.naming.proofs.node.closes.Statement.{statement}
-use Rattle.naming.proofs.node.closes.Tie as tie
+use Rattle.looks.proofs.closes.Statement.{statement}
+use Rattle.looks.proofs.closes.Tie as tie
 
 is-nil-requires : tie.Need-is-nil-requires
 is-nil-requires c κs = search needs

@@ -9,7 +9,8 @@ use lib.Dec.{eqb}
 use borrow.Author.Tests.{eq-eqb, ne-eqb}
 use Rattle.scope.specs.Lists.{Text, bytes}
 use Rattle.scope.specs.Text.{lookByName, lookByKind}
-use Rattle.naming.specs.Naming.{nameIn, modeOf, lookIn, nilNode, labelText}
+use Rattle.naming.specs.Naming.{nameIn}
+use Rattle.looks.specs.Nodes.{modeOf, lookIn, nilNode, labelText}
 
 -- the code's tests of a node
 module _ (kinds : List ℕ) where
