@@ -42,7 +42,8 @@ returns c =
     let a = c .before .before .args in
     let p = c .before .loop in
     let e : p .i ≡ length (a .s .now) = omega (arith, p .inv .0, p .inv .1) in
-    p .inv .2 ∙ ap (λ (x : List ℕ). replicate (p .i) 0 ++ x) (drop-of-length-le (a .s .now) (omega arith)) ∙ append-nil (replicate (p .i) 0) ∙ ap (λ (j : ℕ). replicate j 0) e
+    let done : length (a .s .now) ≤ p .i = omega arith in
+    p .inv .2 ∙ ap (λ (x : List ℕ). replicate (p .i) 0 ++ x) (drop-of-length-le (a .s .now) done) ∙ append-nil (replicate (p .i) 0) ∙ ap (λ (j : ℕ). replicate j 0) e
 
 pub clear-sets-spec : {M : Type 1} → statement M
 clear-sets-spec =
