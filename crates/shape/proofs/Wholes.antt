@@ -12,7 +12,7 @@ use Rattle.fields.specs.declared.Read.the-variants.{At, Fault}
 use Rattle.fields.specs.Places.{placed, readAt}
 use Rattle.shape.specs.Wholes.{whole}
 use Rattle.fields.proofs.Readers.{Keeps, give-keeps, fault-keeps, byte-keeps, bind-keeps, give-stays, place-back, found-at, fault-at, Reached}
-use Rattle.types.proofs.Shapes.{type-keeps, constructor-keeps}
+use Rattle.declarations.proofs.Shapes.{type-keeps, constructor-keeps}
 use Rattle.clause.proofs.Written.{patterns-keep}
 use Rattle.letters.proofs.Laws.{left}
 

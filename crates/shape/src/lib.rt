@@ -8,8 +8,8 @@ ghost use Rattle.shape.specs.Wholes.{whole};
 use clause::patterns;
 use fields::Read;
 use fields::byte;
-use types::constructor_frame;
-use types::type_frame;
+use declarations::constructor_frame;
+use declarations::type_frame;
 
 // What comes after the kind of a frame.
 fn held(bytes: &[u8], at: usize, kind: u8) -> Read

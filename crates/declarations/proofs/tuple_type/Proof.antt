@@ -1,11 +1,11 @@
--- `types::tuple_type` meets its contract: the count, then so many bytes.
+-- `declarations::tuple_type` meets its contract: the count, then so many bytes.
 use Rattle.scope.specs.Lists.{among}
 use Rattle.fields.proofs.Readers.{Passed, passed}
-use Rattle.types.proofs.Shapes.{counted-count, counted-types}
+use Rattle.declarations.proofs.Shapes.{counted-count, counted-types}
 use borrow.Author.Needs.{needs}
 use native.Mathlib.Omega.{arith}
-use Rattle.types.proofs.tuple_type.Statement.{statement}
-use Rattle.types.proofs.tuple_type.Tie as tie
+use Rattle.declarations.proofs.tuple_type.Statement.{statement}
+use Rattle.declarations.proofs.tuple_type.Tie as tie
 
 count-read : (c : tie.After-n) → Passed (among 2 16) (c .before .before .before .before .args .bytes .now) (c .before .before .before .before .args .at) (c .n .given .0 .0)
 count-read c =

@@ -1,12 +1,12 @@
--- `types::constructor_frame` meets its contract: the name, then the fields.
+-- `declarations::constructor_frame` meets its contract: the name, then the fields.
 use mathlib.Core.Bool.{true}
 use Rattle.scope.specs.Frames.{bigName}
 use Rattle.fields.proofs.Readers.{Reached, reached}
 use Rattle.fields.proofs.Readings.{name-keeps}
-use Rattle.types.proofs.Shapes.{constructor-name, constructor-fields}
+use Rattle.declarations.proofs.Shapes.{constructor-name, constructor-fields}
 use borrow.Author.Needs.{needs}
-use Rattle.types.proofs.constructor_frame.Statement.{statement}
-use Rattle.types.proofs.constructor_frame.Tie as tie
+use Rattle.declarations.proofs.constructor_frame.Statement.{statement}
+use Rattle.declarations.proofs.constructor_frame.Tie as tie
 
 name-read : (c : tie.After-n) → Reached bigName (c .before .before .before .before .args .bytes .now) (c .before .before .before .before .args .at) (c .n .given .0 .0)
 name-read c =

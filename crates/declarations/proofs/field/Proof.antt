@@ -1,10 +1,10 @@
--- `types::field` meets its contract: the type, then the label.
+-- `declarations::field` meets its contract: the type, then the label.
 use Rattle.fields.proofs.Readers.{any, Passed, byte-passed}
-use Rattle.types.proofs.Shapes.{field-type, field-label}
+use Rattle.declarations.proofs.Shapes.{field-type, field-label}
 use borrow.Author.Needs.{needs}
 use native.Mathlib.Omega.{arith}
-use Rattle.types.proofs.field.Statement.{statement}
-use Rattle.types.proofs.field.Tie as tie
+use Rattle.declarations.proofs.field.Statement.{statement}
+use Rattle.declarations.proofs.field.Tie as tie
 
 type-read : (c : tie.After-t) → Passed any (c .before .before .before .before .args .bytes .now) (c .before .before .before .before .args .at) (c .t .given .0 .0)
 type-read c =

@@ -1,15 +1,15 @@
--- `types::labelled` meets its contract: the fields still to read from p on reach what all reach.
+-- `declarations::labelled` meets its contract: the fields still to read from p on reach what all reach.
 use Prim.Native.Nat.{_≤_}
 use mathlib.Core.Path.{_≡_, refl, sym, _∙_}
 use lib.ListN.{length}
 use Rattle.scope.specs.Frames.{times}
 use Rattle.fields.specs.Places.{readAt}
-use Rattle.types.specs.Pieces.{field}
+use Rattle.declarations.specs.Pieces.{field}
 use Rattle.fields.proofs.Readers.{reached, times-stops, times-goes, times-done}
-use Rattle.types.proofs.Shapes.{field-keeps}
+use Rattle.declarations.proofs.Shapes.{field-keeps}
 use borrow.Author.Needs.{needs}
-use Rattle.types.proofs.labelled.Statement.{statement}
-use Rattle.types.proofs.labelled.Tie as tie
+use Rattle.declarations.proofs.labelled.Statement.{statement}
+use Rattle.declarations.proofs.labelled.Tie as tie
 
 abbrev Inv-loop : tie.InvT-loop
 Inv-loop bytes at n p₀ left₀ p left = (p ≤ length bytes) × (readAt bytes p (times left field) ≡ readAt bytes at (times n field))

@@ -4,7 +4,7 @@ ghost use Prim.Native.Nat.{_≤_};
 ghost use lib.ListN.{length};
 ghost use Rattle.scope.specs.Frames.{times, typeFrame, constructorFrame};
 ghost use Rattle.fields.specs.Places.{readAt};
-ghost use Rattle.types.specs.Pieces.{countedBytes, field, fields};
+ghost use Rattle.declarations.specs.Pieces.{countedBytes, field, fields};
 use cells::wide8;
 use fields::Read;
 use fields::byte;

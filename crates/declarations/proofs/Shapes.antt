@@ -13,7 +13,7 @@ use Rattle.scope.specs.Frames.{fault, found, Reader, andThen, _>>=_, give, byte
 use Rattle.fields.specs.declared.Read.{Read}
 use Rattle.fields.specs.declared.Read.the-variants.{At, Fault}
 use Rattle.fields.specs.Places.{placed, readAt}
-use Rattle.types.specs.Pieces.{countedBytes, field, fields}
+use Rattle.declarations.specs.Pieces.{countedBytes, field, fields}
 use Rattle.letters.proofs.Laws.{among-true}
 use Rattle.fields.proofs.Readers.{Keeps, give-keeps, byte-keeps, passing-keeps, bind-keeps, times-keeps, choosing-keeps, fault-stays, give-stays, goes-on, found-at, fault-at, place-back, any, byte-reads, Passed, Reached, after-byte, bind-bind, chosen, chosen-none}
 use Rattle.fields.proofs.Readings.{name-keeps, flag-bit, flag-keeps}

@@ -1,12 +1,12 @@
--- `types::fields` meets its contract: labels or not, arity, fields.
+-- `declarations::fields` meets its contract: labels or not, arity, fields.
 use lib.ListN.{getD}
 use Rattle.scope.specs.Lists.{among}
 use Rattle.fields.proofs.Readers.{Passed, passed}
-use Rattle.types.proofs.Shapes.{fields-flag, fields-arity, fields-plain, fields-labelled}
+use Rattle.declarations.proofs.Shapes.{fields-flag, fields-arity, fields-plain, fields-labelled}
 use borrow.Author.Needs.{needs}
 use native.Mathlib.Omega.{arith}
-use Rattle.types.proofs.fields.Statement.{statement}
-use Rattle.types.proofs.fields.Tie as tie
+use Rattle.declarations.proofs.fields.Statement.{statement}
+use Rattle.declarations.proofs.fields.Tie as tie
 
 flag-read : (c : tie.After-f) → Passed (among 0 1) (c .before .before .before .before .args .bytes .now) (c .before .before .before .before .args .at) (c .f .given .0 .0)
 flag-read c =

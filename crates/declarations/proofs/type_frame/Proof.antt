@@ -1,9 +1,9 @@
--- `types::type_frame` meets its contract, by the first byte.
+-- `declarations::type_frame` meets its contract, by the first byte.
 use borrow.Author.Needs.{needs, zero≤}
 use Rattle.fields.proofs.Readers.{above}
-use Rattle.types.proofs.Shapes.{type-end, type-integer, type-bytes, type-opaque, type-list, type-tuple, type-pair, type-data, type-none}
-use Rattle.types.proofs.type_frame.Statement.{statement}
-use Rattle.types.proofs.type_frame.Tie as tie
+use Rattle.declarations.proofs.Shapes.{type-end, type-integer, type-bytes, type-opaque, type-list, type-tuple, type-pair, type-data, type-none}
+use Rattle.declarations.proofs.type_frame.Statement.{statement}
+use Rattle.declarations.proofs.type_frame.Tie as tie
 
 returns : tie.Need-returns
 returns c =
