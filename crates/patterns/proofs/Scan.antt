@@ -16,7 +16,7 @@ use Rattle.scope.specs.Lists.{Text, among}
 use Rattle.scope.specs.Patterns.{Raw, discard, variable, assign, pairOf, number, string, listOf, constructor, tupleOf, inner}
 use Rattle.scope.specs.Frames.{Read, fault, found, Reader, andThen, _>>=_, give, byte, passing, within, flag, times, judging, name, text, smallName, isDecimal, pattern, patterns}
 use Rattle.layout.specs.Types.{textAt}
-use Rattle.suits.specs.Raws.{rawAt, sizeAt}
+use Rattle.suits.specs.Raws.{rawAt, sizeOf, sizeAt}
 
 -- what was found by one reader after another
 bind-found : {A B : Type 0} (x : Read A) (f : A → Reader B) (b : B) (rest : List ℕ) → andThen x f ≡ found b rest → (a : A) × (mid : List ℕ) × (x ≡ found a mid) × (f a mid ≡ found b rest)
@@ -218,8 +218,23 @@ module _ (bytes : List ℕ) (at : ℕ) where
         omega (arith, f .some, f .inside, size-shift, length-drop at bytes),
       )
 
-module _ (bytes : List ℕ) (at w : ℕ) (wIs : w ≡ getD bytes at 0) where
-  -- the size by the kind
-  pub sized : (l k : ℕ) → l ≡ getD bytes (at + 1) 0 → w ≡ k → at + getD (1 ∷ (2 + l) ∷ (2 + l) ∷ (2 + l) ∷ (2 + l) ∷ 3 ∷ 4 ∷ 1 ∷ []) k 2 ≡ at + sizeAt bytes at
-  unfolding sizeAt
-  sized l k lIs e = rw (← wIs, e, lIs)
+-- the size by the kind
+pub sized : (w l k : ℕ) → w ≡ k → sizeOf k l ≡ sizeOf w l
+sized w l k e = rw e
+
+-- a kind that is none of 0 to 7
+pub sized-last : (w l : ℕ) → (w ≡ 0 → ⊥) → (w ≡ 1 → ⊥) → (w ≡ 2 → ⊥) → (w ≡ 3 → ⊥) → (w ≡ 4 → ⊥) → (w ≡ 5 → ⊥) → (w ≡ 6 → ⊥) → (w ≡ 7 → ⊥) → 2 ≡ sizeOf w l
+sized-last zero l a b c d e f g h = absurd (a refl)
+sized-last (suc zero) l a b c d e f g h = absurd (b refl)
+sized-last (suc (suc zero)) l a b c d e f g h = absurd (c refl)
+sized-last (suc (suc (suc zero))) l a b c d e f g h = absurd (d refl)
+sized-last (suc (suc (suc (suc zero)))) l a b c d e f g h = absurd (e refl)
+sized-last (suc (suc (suc (suc (suc zero))))) l a b c d e f g h = absurd (f refl)
+sized-last (suc (suc (suc (suc (suc (suc zero)))))) l a b c d e f g h = absurd (g refl)
+sized-last (suc (suc (suc (suc (suc (suc (suc zero))))))) l a b c d e f g h = absurd (h refl)
+sized-last (suc (suc (suc (suc (suc (suc (suc (suc x)))))))) l a b c d e f g h = refl
+
+-- the size at a place
+pub size-at : (bytes : List ℕ) (at w l r : ℕ) → w ≡ getD bytes at 0 → l ≡ getD bytes (at + 1) 0 → r ≡ sizeOf w l → at + r ≡ at + sizeAt bytes at
+unfolding sizeAt
+size-at bytes at w l r wIs lIs e = rw (e, wIs, lIs)

@@ -14,7 +14,7 @@ use suits::suits;
 ghost use mathlib.Core.Path.{_≡_};
 ghost use Prim.Native.Nat.{_+_, _*_, _≤_, _<_, _^_};
 ghost use lib.ListN.{length};
-ghost use Rattle.suits.specs.Raws.{sizeAt};
+ghost use Rattle.suits.specs.Raws.{sizeOf, sizeAt};
 ghost use Rattle.patterns.specs.Rows.{Ready, Turned, Reading, Simplifies};
 
 pub enum Simplified {
@@ -22,24 +22,30 @@ pub enum Simplified {
     Unsuited,
 }
 
+// How many bytes a pattern has without its inner ones, where its name or text has l.
+fn size(what: u8, l: usize) -> usize
+    requires { ⌜ l < 256 ⌝ }
+    ensures { λ r. ⌜ (r ≡ sizeOf what l) × (r < 512) ⌝ }
+{
+    match what {
+        0 => 1,
+        1 => 2 + l,
+        2 => 2 + l,
+        3 => 2 + l,
+        4 => 2 + l,
+        5 => 3,
+        6 => 4,
+        7 => 1,
+        _ => 2,
+    }
+}
+
 // Where the next pattern stands.
 fn after(bytes: &[u8], at: usize) -> usize
     requires { ⌜ at < 65536 ⌝ }
     ensures { λ r. ⌜ r ≡ at + sizeAt (now (bytes .entry)) at ⌝ }
 {
-    let what = at8(bytes, at);
-    let named = at + (2 + wide8(at8(bytes, at + 1)));
-    match what {
-        0 => at + 1,
-        1 => named,
-        2 => named,
-        3 => named,
-        4 => named,
-        5 => at + 3,
-        6 => at + 4,
-        7 => at + 1,
-        _ => at + 2,
-    }
+    at + size(at8(bytes, at), wide8(at8(bytes, at + 1)))
 }
 
 // The pattern at `at`, read at type t, and the nodes up to the next pattern.

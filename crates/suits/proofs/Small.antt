@@ -12,17 +12,19 @@ use Rattle.suits.specs.Suits.{onKind, filledBy, argsOf, suitAt}
 use Rattle.suits.specs.declared.Suit.{Suit}
 use Rattle.suits.specs.declared.Suit.the-variants.{Leaf, Again, Cells, Args, Unfit}
 
--- a byte that is none of 0 to 7
-pub past-seven : (w : ℕ) → (w ≡ 0 → ⊥) → (w ≡ 1 → ⊥) → (w ≡ 2 → ⊥) → (w ≡ 3 → ⊥) → (w ≡ 4 → ⊥) → (w ≡ 5 → ⊥) → (w ≡ 6 → ⊥) → (w ≡ 7 → ⊥) → (x : ℕ) × (w ≡ suc (suc (suc (suc (suc (suc (suc (suc x))))))))
-past-seven zero a b c d e f g h = absurd (a refl)
-past-seven (suc zero) a b c d e f g h = absurd (b refl)
-past-seven (suc (suc zero)) a b c d e f g h = absurd (c refl)
-past-seven (suc (suc (suc zero))) a b c d e f g h = absurd (d refl)
-past-seven (suc (suc (suc (suc zero)))) a b c d e f g h = absurd (e refl)
-past-seven (suc (suc (suc (suc (suc zero))))) a b c d e f g h = absurd (f refl)
-past-seven (suc (suc (suc (suc (suc (suc zero)))))) a b c d e f g h = absurd (g refl)
-past-seven (suc (suc (suc (suc (suc (suc (suc zero))))))) a b c d e f g h = absurd (h refl)
-past-seven (suc (suc (suc (suc (suc (suc (suc (suc x)))))))) a b c d e f g h = (x, refl)
+-- a byte that is none of 0 to 5
+pub past-five : (w : ℕ) → (w ≡ 0 → ⊥) → (w ≡ 1 → ⊥) → (w ≡ 2 → ⊥) → (w ≡ 3 → ⊥) → (w ≡ 4 → ⊥) → (w ≡ 5 → ⊥) → (x : ℕ) × (w ≡ 6 + x)
+past-five zero a b c d e f = absurd (a refl)
+past-five (suc zero) a b c d e f = absurd (b refl)
+past-five (suc (suc zero)) a b c d e f = absurd (c refl)
+past-five (suc (suc (suc zero))) a b c d e f = absurd (d refl)
+past-five (suc (suc (suc (suc zero)))) a b c d e f = absurd (e refl)
+past-five (suc (suc (suc (suc (suc zero))))) a b c d e f = absurd (f refl)
+past-five (suc (suc (suc (suc (suc (suc x)))))) a b c d e f = (x, omega arith)
+
+-- nor 6 and 7
+pub past-seven : (w x : ℕ) → w ≡ 6 + x → (w ≡ 6 → ⊥) → (w ≡ 7 → ⊥) → (y : ℕ) × (w ≡ suc (suc (suc (suc (suc (suc (suc (suc y))))))))
+past-seven w x e a b = (w - 8, omega arith)
 
 module _ (bytes kinds counts arities : List ℕ) (at t w k : ℕ) (wIs : w ≡ getD bytes at 0) (kIs : k ≡ getD kinds t 0) where
   abbrev Is : Suit → Type 0

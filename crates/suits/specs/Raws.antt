@@ -14,9 +14,13 @@ rawAt bytes at =
     (getD bytes at 0)
     (tupleOf (getD bytes (at + 1) 0))
 
--- how many bytes it has: its kind, and a name, a text, counts and flags
+-- how many bytes a kind of pattern has, with a name or a text of l bytes: its kind, and a name, a text, counts and flags
+abbrev pub sizeOf : ℕ → ℕ → ℕ
+sizeOf what l = getD (1 ∷ (2 + l) ∷ (2 + l) ∷ (2 + l) ∷ (2 + l) ∷ 3 ∷ 4 ∷ 1 ∷ []) what 2
+
+-- how many bytes the pattern at a place has
 unfoldable pub sizeAt : List ℕ → ℕ → ℕ
-sizeAt bytes at = let l = 2 + getD bytes (at + 1) 0 in getD (1 ∷ l ∷ l ∷ l ∷ l ∷ 3 ∷ 4 ∷ 1 ∷ []) (getD bytes at 0) 2
+sizeAt bytes at = sizeOf (getD bytes at 0) (getD bytes (at + 1) 0)
 
 -- the place of a pattern that is a literal
 abbrev pub ownPlace : ℕ → Raw → List ℕ

@@ -3,7 +3,9 @@ use cells::at8;
 use cells::wide8;
 use nodes::low;
 ghost use mathlib.Core.Path.{_≡_};
-ghost use Prim.Native.Nat.{_<_};
+ghost use mathlib.Core.List.{List};
+ghost use Prim.Native.Nat.{ℕ, _+_, _<_};
+ghost use lib.ListN.{getD};
 ghost use Rattle.suits.specs.Suits.{onKind, filledBy, argsOf, suitAt};
 
 // What the pattern at a place becomes, read at a type.
@@ -61,6 +63,29 @@ fn args(counts: &[u8], arities: &[u8], t: usize, c: usize, k: usize, spread: boo
     filled(c, k, spread, wide8(at8(arities, 32 * t + c)))
 }
 
+// A constructor, a pair or a tuple at `at`, read at type t of this kind.
+fn applied(
+    bytes: &[u8],
+    at: usize,
+    what: u8,
+    kind: u8,
+    counts: &[u8],
+    arities: &[u8],
+    t: usize,
+) -> Suit
+    requires { ⌜ (at < 65536) × (t < 16384) ⌝ }
+    ensures { λ r. ⌜ ((kinds : List ℕ) (x : ℕ) → what ≡ getD (now (bytes .entry)) at 0 → kind ≡ getD kinds t 0 → what ≡ 6 + x → r ≡ suitAt (now (bytes .entry)) at kinds (now (counts .entry)) (now (arities .entry)) t) ⌝ }
+{
+    let a = wide8(at8(bytes, at + 1));
+    let b = wide8(at8(bytes, at + 2));
+    let flag = at8(bytes, at + 3) == 1;
+    match what {
+        6 => on_kind(kind == 6, args(counts, arities, t, a, b, flag)),
+        7 => on_kind(kind == 5, args(counts, arities, t, 0, 2, false)),
+        _ => on_kind(kind == 4, args(counts, arities, t, 0, a, false)),
+    }
+}
+
 // The pattern at `at`, read at type t.
 pub fn suits(bytes: &[u8], at: usize, kinds: &[u8], counts: &[u8], arities: &[u8], t: usize) -> Suit
     requires { ⌜ (at < 65536) × (t < 16384) ⌝ }
@@ -68,9 +93,6 @@ pub fn suits(bytes: &[u8], at: usize, kinds: &[u8], counts: &[u8], arities: &[u8
 {
     let what = at8(bytes, at);
     let kind = at8(kinds, t);
-    let a = wide8(at8(bytes, at + 1));
-    let b = wide8(at8(bytes, at + 2));
-    let flag = at8(bytes, at + 3) == 1;
     let literal = low(32768 + at % 32768);
     match what {
         0 => Suit::Leaf { node: 0 },
@@ -81,12 +103,10 @@ pub fn suits(bytes: &[u8], at: usize, kinds: &[u8], counts: &[u8], arities: &[u8
         5 => on_kind(
             kind == 3,
             Suit::Cells {
-                more: a,
-                tail: b == 1,
+                more: wide8(at8(bytes, at + 1)),
+                tail: at8(bytes, at + 2) == 1,
             },
         ),
-        6 => on_kind(kind == 6, args(counts, arities, t, a, b, flag)),
-        7 => on_kind(kind == 5, args(counts, arities, t, 0, 2, false)),
-        _ => on_kind(kind == 4, args(counts, arities, t, 0, a, false)),
+        _ => applied(bytes, at, what, kind, counts, arities, t),
     }
 }
