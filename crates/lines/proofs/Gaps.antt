@@ -1,17 +1,19 @@
 -- The lines of the missing rows, row by row.
 use mathlib.Core.Path.{_≡_, refl, ap, sym, subst, _∙_}
 use mathlib.Core.List.{List, [], _∷_, _++_, append-assoc, append-nil}
+use mathlib.Core.Bool.{Bool, true, false, cond}
 use Prim.Native.Nat.{ℕ, zero, suc, _+_, _-_, _*_, _^_, _≤_}
 use native.Mathlib.Omega.{arith}
 use native.Mathlib.Numerals.{add-one, one-add}
 use lib.ListN.{length, take, drop, length-drop, take-append-drop}
 use lib.Seq.{length-take-le}
-use Rattle.scope.specs.Lists.{Text}
+use Rattle.scope.specs.Lists.{Text, bytes}
 use Rattle.scope.specs.Types.{Ref, Table}
 use Rattle.scope.specs.Patterns.{Row}
-use Rattle.scope.specs.Text.{skip, Mode, source, paste, alone}
+use Rattle.scope.specs.Text.{skip, source, paste, alone}
 use Rattle.scope.specs.Report.{gapLines}
 use Rattle.writing.specs.Writing.{Wrote}
+use Rattle.looks.specs.Nodes.{modeOf}
 use Rattle.text.specs.Rows.{Slices, Tabled, rowAt, Begins}
 use Rattle.text.specs.Printing.{patternText, Many, Printed}
 use Rattle.lines.specs.Findings.{gapWord, gapText, gapsText}
@@ -20,13 +22,17 @@ use Rattle.text.proofs.Rows.{skip-none, skip-add, begins-skip}
 use Rattle.text.proofs.Printing.{nothing}
 
 -- a word, the pattern, and the line feed
-pub text-printed : {s : Slices} {p q : ℕ} {a b c d : List ℕ} {at k l after : ℕ} (mode : Mode)
-    → Wrote a b at k (gapWord mode) → Printed s (Many 1) p q b c k l (patternText mode alone) → Wrote c d l after (10 ∷ []) → Printed s (Many 1) p q a d at after (gapText mode)
-text-printed mode w h x = record {
+pub text-printed : {s : Slices} {p q : ℕ} {a b c d : List ℕ} {at k l after : ℕ} (pasted : Bool)
+    → Wrote a b at k (cond pasted (bytes "paste ") (bytes "missing ")) → Printed s (Many 1) p q b c k l (patternText (modeOf pasted) alone) → Wrote c d l after (10 ∷ []) → Printed s (Many 1) p q a d at after (gapText (modeOf pasted))
+text-printed pasted w h x = record {
   prints = λ table d ts us r v.
       let one = h .prints table d ts us r v in
-      (wrote-more (wrote-more w (one .0)) x, one .1);
+      (wrote-more (wrote-more (wrote-as (word pasted) w) (one .0)) x, one .1);
 }
+  where
+    word : (b : Bool) → cond b (bytes "paste ") (bytes "missing ") ≡ gapWord (modeOf b)
+    word true = refl
+    word false = refl
 
 -- the same pattern twice: the Rust's text, then the paste text
 pub gap-printed : {s : Slices} {p m q : ℕ} {a b c : List ℕ} {at k after : ℕ}

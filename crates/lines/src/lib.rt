@@ -1,32 +1,31 @@
 // The lines of the missing rows, and the report.
+ghost use mathlib.Core.Bool.{cond};
 ghost use Prim.Native.Nat.{_+_, _-_, _*_, _≤_, _<_, _^_};
 ghost use lib.ListN.{length};
+ghost use Rattle.scope.specs.Lists.{bytes as text};
 ghost use Rattle.scope.specs.Types.{Table};
 ghost use Rattle.scope.specs.Report.{Findings, gapLines, report as reportText};
 ghost use Rattle.writing.specs.Writing.{Wrote};
 ghost use Rattle.looks.specs.Nodes.{modeOf};
 ghost use Rattle.text.specs.Rows.{slices};
 ghost use Rattle.text.specs.Printing.{Many, Printed};
-ghost use Rattle.lines.specs.Findings.{gapWord, gapText, gapsText, Says, Small};
+ghost use Rattle.lines.specs.Findings.{gapText, gapsText, Says, Small};
 use text::pretty::Spot;
 use text::pretty::pretty;
 use verdicts::head;
 use wording::calls_line;
-use writing::all;
+use wording::either;
 use writing::byte;
 
 // What stands before a missing row's text.
 fn gap_word(paste: bool, out: &mut [u8], at: usize) -> usize
-    requires { ⌜ at + 8 < 2 ^ 62 ⌝ }
-    ensures { λ r. ⌜ Wrote (now (out .entry)) (now (out .exit)) at r (gapWord (modeOf paste)) ⌝ }
-    ensures { λ r. ⌜ r ≤ at + 8 ⌝ }
+    requires { ⌜ at + 16 < 2 ^ 62 ⌝ }
+    ensures { λ r. ⌜ Wrote (now (out .entry)) (now (out .exit)) at r (cond paste (text "paste ") (text "missing ")) ⌝ }
+    ensures { λ r. ⌜ r ≤ at + 16 ⌝ }
 {
-    if paste {
-        let word = *b"paste ";
-        return all(out, at, &word);
-    }
+    let word = *b"paste ";
     let missing = *b"missing ";
-    all(out, at, &missing)
+    either(paste, out, at, &word, &missing)
 }
 
 // A line of the missing row at p: the source's text, or the paste text.
@@ -51,7 +50,7 @@ fn gap_text(
     ensures { λ r. ⌜ Printed (slices (now (bytes .entry)) (now (kinds .entry)) (now (arities .entry)) (now (starts .entry)) (now (names .entry)) (now (labels .entry)) (now (nodes .entry))) (Many 1) p (r .p) (now (out .entry)) (now (out .exit)) at (r .at) (gapText (modeOf paste)) ⌝ }
 {
     let next = gap_word(paste, out, at);
-    let text = pretty(
+    let one = pretty(
         paste,
         bytes,
         kinds,
@@ -64,8 +63,8 @@ fn gap_text(
         out,
         next,
     );
-    let end = byte(out, text.at, 10);
-    Spot { at: end, p: text.p }
+    let end = byte(out, one.at, 10);
+    Spot { at: end, p: one.p }
 }
 
 // The two lines of the missing row at p.

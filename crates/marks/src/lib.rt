@@ -11,6 +11,7 @@ ghost use Rattle.marks.specs.Marks.{openText, closeText, fieldMark};
 use cells::at16;
 use cells::wide16;
 use looks::put_label;
+use wording::either;
 use writing::all;
 
 // What stands between two patterns.
@@ -33,30 +34,24 @@ pub fn dots(out: &mut [u8], at: usize) -> usize
 
 // The bracket before a constructor's arguments.
 pub fn put_open(labelled: bool, out: &mut [u8], at: usize) -> usize
-    requires { ⌜ at + 3 < 2 ^ 64 ⌝ }
+    requires { ⌜ at + 4 < 2 ^ 64 ⌝ }
     ensures { λ r. ⌜ Wrote (now (out .entry)) (now (out .exit)) at r (openText labelled) ⌝ }
-    ensures { λ r. ⌜ r ≤ at + 3 ⌝ }
+    ensures { λ r. ⌜ r ≤ at + 4 ⌝ }
 {
-    if labelled {
-        let brace = *b" { ";
-        return all(out, at, &brace);
-    }
+    let brace = *b" { ";
     let round = *b"(";
-    all(out, at, &round)
+    either(labelled, out, at, &brace, &round)
 }
 
 // The bracket after them.
 pub fn put_close(labelled: bool, out: &mut [u8], at: usize) -> usize
-    requires { ⌜ at + 2 < 2 ^ 64 ⌝ }
+    requires { ⌜ at + 3 < 2 ^ 64 ⌝ }
     ensures { λ r. ⌜ Wrote (now (out .entry)) (now (out .exit)) at r (closeText labelled) ⌝ }
-    ensures { λ r. ⌜ r ≤ at + 2 ⌝ }
+    ensures { λ r. ⌜ r ≤ at + 3 ⌝ }
 {
-    if labelled {
-        let brace = *b" }";
-        return all(out, at, &brace);
-    }
+    let brace = *b" }";
     let round = *b")";
-    all(out, at, &round)
+    either(labelled, out, at, &brace, &round)
 }
 
 // Whether the constructor with the number i has labels: whether one stands at its first field.

@@ -1,7 +1,7 @@
 -- The verdicts' lines, verdict by verdict.
 use mathlib.Core.Path.{_≡_, refl, ap, sym, _∙_}
 use mathlib.Core.List.{List, [], _∷_, _++_, append-assoc, append-nil}
-use mathlib.Core.Bool.{Bool, true, false}
+use mathlib.Core.Bool.{Bool, true, false, cond}
 use Prim.Native.Nat.{ℕ, suc, _+_, _-_, _<_}
 use native.Mathlib.Nat.{add-assoc, add-zero, add-suc, suc-add}
 use native.Mathlib.Omega.{arith}
@@ -61,8 +61,12 @@ abbrev pub clauseText : ℕ → Bool → Text
 clauseText k v = line (bytes "clause " ++ decimal k ++ verdictWord v)
 
 -- a verdict's word and the line feed are written as one
-pub clause-law : {a b : List ℕ} {at after : ℕ} (k : ℕ) (v : Bool) → Wrote a b at after (bytes "clause " ++ decimal k ++ (verdictWord v ++ 10 ∷ [])) → Wrote a b at after (clauseText k v)
-clause-law k v w = wrote-as (sym (append-assoc (bytes "clause " ++ decimal k) (verdictWord v) (10 ∷ []))) w
+pub clause-law : {a b : List ℕ} {at after : ℕ} (k : ℕ) (v : Bool) → Wrote a b at after (bytes "clause " ++ decimal k ++ cond v (bytes " reached\n") (bytes " never\n")) → Wrote a b at after (clauseText k v)
+clause-law k v w = wrote-as (ap (λ (t : Text). bytes "clause " ++ decimal k ++ t) (word v) ∙ sym (append-assoc (bytes "clause " ++ decimal k) (verdictWord v) (10 ∷ []))) w
+  where
+    word : (u : Bool) → cond u (bytes " reached\n") (bytes " never\n") ≡ verdictWord u ++ 10 ∷ []
+    word true = refl
+    word false = refl
 
 lines-snoc : (k : ℕ) (us : List Bool) (v : Bool) → clauseLines k (us ++ v ∷ []) ≡ clauseLines k us ++ clauseText (k + length us) v
 lines-snoc k [] v = append-nil (clauseText k v) ∙ ap (λ (j : ℕ). clauseText j v) (sym (add-zero k))

@@ -1,5 +1,6 @@
 // The lines of the verdicts: how many are yes, one line a clause, and all that stands before the missing rows.
 ghost use mathlib.Core.Path.{_≡_};
+ghost use mathlib.Core.Bool.{cond};
 ghost use mathlib.Core.List.{_++_};
 ghost use Prim.Native.Nat.{_+_, _*_, _≤_, _<_, _^_};
 ghost use lib.ListN.{length};
@@ -9,9 +10,9 @@ ghost use Rattle.scope.specs.Text.{decimal as decimalText};
 ghost use Rattle.scope.specs.Report.{yeses as yesesOf, line, countLine, verdictWord, clauseLines};
 ghost use Rattle.writing.specs.Writing.{Wrote};
 ghost use Rattle.verdicts.specs.Verdicts.{said};
+use wording::either;
 use wording::ended;
 use wording::numbered;
-use writing::all;
 
 // 1 for yes.
 fn mark(verdict: u8) -> usize
@@ -56,15 +57,12 @@ fn count_line(verdicts: &[u8], out: &mut [u8], at: usize) -> usize
 // A verdict in a word, at the end of its line.
 fn verdict_word(yes: bool, out: &mut [u8], at: usize) -> usize
     requires { ⌜ at + 16 < 2 ^ 62 ⌝ }
-    ensures { λ r. ⌜ Wrote (now (out .entry)) (now (out .exit)) at r (line (verdictWord yes)) ⌝ }
+    ensures { λ r. ⌜ Wrote (now (out .entry)) (now (out .exit)) at r (cond yes (text " reached\n") (text " never\n")) ⌝ }
     ensures { λ r. ⌜ r ≤ at + 16 ⌝ }
 {
-    if yes {
-        let reached = *b" reached\n";
-        return all(out, at, &reached);
-    }
+    let reached = *b" reached\n";
     let never = *b" never\n";
-    all(out, at, &never)
+    either(yes, out, at, &reached, &never)
 }
 
 // The line of clause k.

@@ -1,4 +1,5 @@
-// Lines of words and numbers: a word with its number, the lines that count gaps and calls, and the line of a refusal.
+// Words and numbers: one word or another, a word with its number, and the lines made of both: the calls, a refusal.
+ghost use mathlib.Core.Bool.{cond};
 ghost use mathlib.Core.List.{_++_};
 ghost use Prim.Native.Nat.{_+_, _≤_, _<_, _^_};
 ghost use lib.ListN.{length};
@@ -10,6 +11,19 @@ use cells::wide8;
 use writing::all;
 use writing::byte;
 use writing::decimal;
+
+// One word or the other.
+pub fn either(yes: bool, out: &mut [u8], at: usize, word: &[u8], other: &[u8]) -> usize
+    requires { ⌜ at + length (now word) < 2 ^ 64 ⌝ }
+    requires { ⌜ at + length (now other) < 2 ^ 64 ⌝ }
+    ensures { λ r. ⌜ Wrote (now (out .entry)) (now (out .exit)) at r (cond yes (now (word .entry)) (now (other .entry))) ⌝ }
+    ensures { λ r. ⌜ r ≤ at + length (now (word .entry)) + length (now (other .entry)) ⌝ }
+{
+    if yes {
+        return all(out, at, word);
+    }
+    all(out, at, other)
+}
 
 // A word, and a number after it.
 pub fn numbered(out: &mut [u8], at: usize, word: &[u8], n: usize) -> usize

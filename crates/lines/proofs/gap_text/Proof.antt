@@ -1,7 +1,6 @@
 -- `gap_text` meets its contract: the word, the pattern's text, the line feed.
 use mathlib.Core.Path.{_∙_}
 use native.Mathlib.Omega.{arith}
-use Rattle.looks.specs.Nodes.{modeOf}
 use Rattle.lines.proofs.Gaps.{text-printed}
 use Rattle.lines.proofs.gap_text.Statement.{statement}
 use Rattle.lines.proofs.gap_text.Tie as tie
@@ -24,7 +23,7 @@ same-length c =
 
 returns : tie.Need-returns
 returns c =
-    (c .before .before .before .before .before .before .pretty .ensures .0 .places, (omega (arith, c .before .before .before .before .before .before .before .before .before .before .before .before .before .before .before .before .before .before .before .before .pre, c .before .before .before .before .before .before .before .before .before .before .gap-word .ensures .1, c .before .before .before .before .before .before .pretty .ensures .0, c .before .before .byte .ensures .ends), text-printed (modeOf (c .before .before .before .before .before .before .before .before .before .before .before .before .before .before .before .before .before .before .before .before .args .paste)) (c .before .before .before .before .before .before .before .before .before .before .gap-word .ensures .0) (c .before .before .before .before .before .before .pretty .ensures .1) (c .before .before .byte .ensures)))
+    (c .before .before .before .before .before .before .pretty .ensures .0 .places, (omega (arith, c .before .before .before .before .before .before .before .before .before .before .before .before .before .before .before .before .before .before .before .before .pre, c .before .before .before .before .before .before .before .before .before .before .gap-word .ensures .1, c .before .before .before .before .before .before .pretty .ensures .0, c .before .before .byte .ensures .ends), text-printed (c .before .before .before .before .before .before .before .before .before .before .before .before .before .before .before .before .before .before .before .before .args .paste) (c .before .before .before .before .before .before .before .before .before .before .gap-word .ensures .0) (c .before .before .before .before .before .before .pretty .ensures .1) (c .before .before .byte .ensures)))
 
 pub gap-text-spec : {M : Type 1} → statement M
 gap-text-spec =
