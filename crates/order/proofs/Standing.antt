@@ -1,12 +1,12 @@
--- Where a frame may stand and whether there is room for it, branch by branch: refusals 5 and 6.
+-- Where a frame may stand, where a file may end, and whether there is room for more, branch by branch: refusals 5, 6 and 9.
 use mathlib.Core.Path.{_≡_, refl, sym, subst}
 use mathlib.Core.Bool.{Bool, true, false, _||_}
-use Prim.Native.Nat.{ℕ, zero, suc, _≤_, _<_}
+use Prim.Native.Nat.{ℕ, zero, suc, _+_, _-_, _≤_, _<_}
 use native.Mathlib.Omega.{arith}
-use borrow.Author.Tests.{lt-ltb, le-ltb, ne-eqb}
-use lib.Dec.{ltb, eqb}
+use borrow.Author.Tests.{lt-ltb, le-ltb, ne-eqb, le-leb, lt-leb, leb-true, leb-false}
+use lib.Dec.{ltb, leb, eqb}
 use Rattle.order.specs.declared.State.{State}
-use Rattle.order.specs.Phases.{standsIn, roomIn}
+use Rattle.order.specs.Phases.{standsIn, closesIn, roomIn}
 
 or-none : (b : Bool) → b ≡ (b || false)
 or-none true = refl
@@ -50,6 +50,13 @@ none-stands (suc zero) k a l = absurd (omega arith)
 none-stands (suc (suc zero)) k a l = absurd (a refl)
 none-stands (suc (suc (suc p))) k a l = refl
 
+pub closes-late : (p : ℕ) → ltb 2 p ≡ closesIn p
+unfolding closesIn
+closes-late zero = refl
+closes-late (suc zero) = refl
+closes-late (suc (suc zero)) = refl
+closes-late (suc (suc (suc p))) = lt-ltb 2 (suc (suc (suc p))) (omega arith)
+
 -- 6
 module _ (s : State) (last : ℕ) where
   pub type-room : (k : ℕ) → k ≡ 1 → ltb (s .types) 64 ≡ roomIn s last k
@@ -76,3 +83,11 @@ module _ (s : State) (last : ℕ) where
   pub ctor-room : (k : ℕ) → k ≡ 2 → s .ctors < 256 → ltb last 32 ≡ roomIn s last k
   unfolding roomIn
   ctor-room k e l = rw (e, lt-ltb (s .ctors) 256 l)
+
+-- 9: what is left of the room, or the sum
+pub nodes-fit : (count n : ℕ) → count ≤ 4096 → leb n (4096 - count) ≡ leb (count + n) 4096
+nodes-fit count n l = go (leb (count + n) 4096) refl
+  where
+    go : (b : Bool) → leb (count + n) 4096 ≡ b → leb n (4096 - count) ≡ b
+    go true e = le-leb n (4096 - count) (omega (arith, leb-true (count + n) 4096 e))
+    go false e = lt-leb n (4096 - count) (omega (arith, leb-false (count + n) 4096 e))

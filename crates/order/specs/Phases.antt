@@ -1,6 +1,6 @@
--- The phases of a file, what may stand in each, how much of each frame there may be, and the numbers before any clause.
+-- The phases of a file, what may stand in each and where it may end, how much of each frame there may be, and the numbers before any clause.
 use mathlib.Core.Path.{_≡_}
-use mathlib.Core.Bool.{Bool, true, _&&_}
+use mathlib.Core.Bool.{Bool, true, false, _&&_}
 use mathlib.Core.List.{[], _∷_}
 use Prim.Native.Nat.{ℕ, zero, suc}
 use lib.ListN.{getD}
@@ -19,6 +19,17 @@ phaseOf (suc (suc (suc n))) = closed
 -- 5: may a frame of kind k stand in this phase
 unfoldable pub standsIn : ℕ → ℕ → Bool
 standsIn phase k = any (eqb k) (standing (phaseOf phase))
+
+-- the end is there
+abbrev pub isClosed : Phase → Bool
+isClosed types = false
+isClosed constructors = false
+isClosed clauses = false
+isClosed closed = true
+
+-- 5: may a file end in this phase
+unfoldable pub closesIn : ℕ → Bool
+closesIn phase = isClosed (phaseOf phase)
 
 -- 6: is there room for one more frame of kind k, where the last type has `last` constructors
 unfoldable pub roomIn : State → ℕ → ℕ → Bool

@@ -1,6 +1,9 @@
-// Where in the order of frames a file is, and how much it has said: refusals 5 and 6.
+// Where in the order of frames a file is, and how much it may say: refusals 2, 5, 6 and 9.
 ghost use mathlib.Core.Path.{_≡_};
-ghost use Rattle.order.specs.Phases.{standsIn, roomIn, Numbers};
+ghost use Prim.Native.Nat.{_+_, _≤_};
+ghost use lib.Dec.{ltb, leb};
+ghost use Rattle.scope.specs.Limits.{maxFile, maxNodes};
+ghost use Rattle.order.specs.Phases.{standsIn, closesIn, roomIn, Numbers};
 
 pub struct State {
     pub phase: u8,
@@ -29,6 +32,13 @@ pub fn start() -> State
     }
 }
 
+// 2: has a file too many bytes.
+pub fn is_long(bytes: usize) -> bool
+    ensures { λ r. ⌜ r ≡ ltb maxFile bytes ⌝ }
+{
+    49152 < bytes
+}
+
 // 5: may a frame of this kind stand in this phase: 0 types, 1 constructors, 2 clauses, 3 closed.
 pub fn stands(phase: u8, kind: u8) -> bool
     ensures { λ r. ⌜ r ≡ standsIn phase kind ⌝ }
@@ -54,6 +64,13 @@ pub fn stands(phase: u8, kind: u8) -> bool
     kind == 2
 }
 
+// 5: may a file end in this phase.
+pub fn closes(phase: u8) -> bool
+    ensures { λ r. ⌜ r ≡ closesIn phase ⌝ }
+{
+    2 < phase
+}
+
 // 6: is there room for one more frame of this kind, where the last type has `last` constructors.
 pub fn has_room(s: State, last: usize, kind: u8) -> bool
     ensures { λ r. ⌜ r ≡ roomIn s last kind ⌝ }
@@ -71,4 +88,12 @@ pub fn has_room(s: State, last: usize, kind: u8) -> bool
         return false;
     }
     last < 32
+}
+
+// 9: is there room for n more nodes, where the clauses so far have `count`.
+pub fn has_nodes(count: usize, n: usize) -> bool
+    requires { ⌜ count ≤ maxNodes ⌝ }
+    ensures { λ r. ⌜ r ≡ leb (count + n) maxNodes ⌝ }
+{
+    n <= 4096 - count
 }
