@@ -6,7 +6,7 @@ use mathlib.Core.Option.{Option, none, some}
 use Prim.Native.Nat.{ℕ, _+_, _-_, _%_, _≤_, _<_}
 use native.Mathlib.Omega.{arith}
 use borrow.Author.Count.{below-more}
-use borrow.Author.Tests.{ltb-true, le-leb, lt-leb}
+use borrow.Author.Tests.{ltb-true, leb-true}
 use lib.ListN.{length, getD, take, drop, set, length-append, length-set, List·getD-append}
 use lib.Seq.{length-sets, getD-set-same, getD-set-other}
 use lib.Dec.{leb, eqb}
@@ -44,14 +44,14 @@ no-rows bytes nodes left rows count used table a b =
 abbrev phaseFor : ℕ → ℕ
 phaseFor k = cond (eqb k 6) 1 0
 
-type-phase : (ty : Ty) (n : ℕ) → n ≡ phaseFor (kind ty) → (table : Table) → (phaseOf n ≡ afterType ty) × ((n ≤ 3) × InPhase (afterType ty) (withTable (afterType ty) (table ++ ty ∷ []) .block))
-type-phase integer n e table = (ap phaseOf e, (omega arith, tt))
-type-phase byteString n e table = (ap phaseOf e, (omega arith, tt))
-type-phase opaque n e table = (ap phaseOf e, (omega arith, tt))
-type-phase (list t) n e table = (ap phaseOf e, (omega arith, tt))
-type-phase (tuple ts) n e table = (ap phaseOf e, (omega arith, tt))
-type-phase (pair a b) n e table = (ap phaseOf e, (omega arith, tt))
-type-phase (dat cs) n e table = (ap phaseOf e, (omega arith, data-ends table cs))
+type-phase : (ty : Ty) (n : ℕ) → n ≡ phaseFor (kind ty) → (table : Table) → (phaseOf n ≡ afterType ty) × InPhase (afterType ty) (withTable (afterType ty) (table ++ ty ∷ []) .block)
+type-phase integer n e table = (ap phaseOf e, tt)
+type-phase byteString n e table = (ap phaseOf e, tt)
+type-phase opaque n e table = (ap phaseOf e, tt)
+type-phase (list t) n e table = (ap phaseOf e, tt)
+type-phase (tuple ts) n e table = (ap phaseOf e, tt)
+type-phase (pair a b) n e table = (ap phaseOf e, tt)
+type-phase (dat cs) n e table = (ap phaseOf e, data-ends table cs)
 
 nodes-snoc : (m : Matrix) (r : Row) → nodesIn (m ++ r ∷ []) ≡ nodesIn m + length r
 nodes-snoc [] r = omega arith
@@ -66,20 +66,22 @@ unsuited-steps : {h : Held} (bytes new : List ℕ) (f : Row → scope.Step scope
 unsuited-steps bytes new f none a = stops 8
 unsuited-steps bytes new f (some r) a = let e : Unsuited ≡ Kept (length r) = a .0 in clash (cc)
 
-over-steps : {h : Held} (bytes new : List ℕ) (n : ℕ) (b : Block) (o : Option Row) → Answers bytes new o (Kept n) → 4096 < nodesIn (b .rows) + n → Stepped h (Refused 9) (suited o >>= (λ r. need 9 (leb (nodesIn (b .rows) + length r) 4096) >>= (λ _. ok (withRow b r))))
+over-steps : {h : Held} (bytes new : List ℕ) (n : ℕ) (b : Block) (o : Option Row) → Answers bytes new o (Kept n) → leb (nodesIn (b .rows) + n) 4096 ≡ false → Stepped h (Refused 9) (suited o >>= (λ r. need 9 (leb (nodesIn (b .rows) + length r) 4096) >>= (λ _. ok (withRow b r))))
 over-steps bytes new n b none a l = let e : Kept n ≡ Unsuited = a in clash (cc)
 over-steps bytes new n b (some r) a l =
     let e : Kept n ≡ Kept (length r) = a .0 in
     let i : n ≡ length r = cc in
-    rw (lt-leb (nodesIn (b .rows) + length r) 4096 (omega arith)) (stops 9)
+    let f : leb (nodesIn (b .rows) + length r) 4096 ≡ false = ap (λ (k : ℕ). leb (nodesIn (b .rows) + k) 4096) (sym i) ∙ l in
+    rw f (stops 9)
 
-row-steps : {h : Held} (bytes new : List ℕ) (n : ℕ) (b : Block) (o : Option Row) (s : State) → Answers bytes new o (Kept n) → nodesIn (b .rows) + n ≤ 4096 → ((r : Row) → o ≡ some r → n ≡ length r → Says h s (withRow b r))
+row-steps : {h : Held} (bytes new : List ℕ) (n : ℕ) (b : Block) (o : Option Row) (s : State) → Answers bytes new o (Kept n) → leb (nodesIn (b .rows) + n) 4096 ≡ true → ((r : Row) → o ≡ some r → n ≡ length r → Says h s (withRow b r))
     → Stepped h (On s) (suited o >>= (λ r. need 9 (leb (nodesIn (b .rows) + length r) 4096) >>= (λ _. ok (withRow b r))))
 row-steps bytes new n b none s a l k = let e : Kept n ≡ Unsuited = a in clash (cc)
 row-steps bytes new n b (some r) s a l k =
     let e : Kept n ≡ Kept (length r) = a .0 in
     let i : n ≡ length r = cc in
-    rw (le-leb (nodesIn (b .rows) + length r) 4096 (omega arith)) (goes (k r refl i))
+    let f : leb (nodesIn (b .rows) + length r) 4096 ≡ true = ap (λ (k : ℕ). leb (nodesIn (b .rows) + k) 4096) (sym i) ∙ l in
+    rw f (goes (k r refl i))
 
 -- by what was answered
 pub simplified-as : {bytes : List ℕ} {at : ℕ} {kinds counts arities starts fields : List ℕ} {subject used : ℕ} {nodes left nodes₁ left₁ : List ℕ} {r v : Simplified} → r ≡ v → Simplifies bytes at kinds counts arities starts fields subject used nodes left nodes₁ left₁ r → Simplifies bytes at kinds counts arities starts fields subject used nodes left nodes₁ left₁ v
@@ -117,13 +119,12 @@ module _ {h : Held} {s : State} {σ : scope.State} (z : Sized h) (w : Says h s �
       let says : Says (held (h .bytes) kinds′ counts′ arities′ starts′ (h .names) fields′ (h .labels) (h .nodes) (h .left) (h .rows)) r (withTable (afterType ty) (σ .block .table ++ ty ∷ [])) =
       record {
         phaseIs = p .0;
-        low = p .1 .0;
         holds = rw (n .typesAre, n .ctorsAre, n .fieldsAre) (type-holds room (w .holds) free (w .few) at ty [] frame (e .with));
         few = omega (arith, w .few, n .ctorsAre);
         subjectIs = n .subjectIs;
         clausesAre = n .clausesAre;
         rowsAre = no-rows _ _ _ _ _ _ _ (n .countIs) (n .usedIs);
-        inPhase = p .1 .1;
+        inPhase = p .1;
       } in
       goes says
 
@@ -139,7 +140,6 @@ module _ {h : Held} {s : State} {σ : scope.State} (z : Sized h) (w : Says h s �
       let says : Says (held (h .bytes) (h .kinds) counts′ arities′ starts′ names′ fields′ labels′ (h .nodes) (h .left) (h .rows)) r′ (withTable constructors (addCtor (σ .block .table) c)) =
       record {
         phaseIs = ap phaseOf (n .phaseIs);
-        low = omega (arith, n .phaseIs);
         holds = rw (n .typesAre, n .ctorsAre, n .fieldsAre) (ctor-holds (w .holds) d room more free at past short c [] frame k);
         few = omega (arith, n .ctorsAre);
         subjectIs = n .subjectIs;
@@ -160,7 +160,6 @@ module _ {h : Held} {s : State} {σ : scope.State} (z : Sized h) (w : Says h s �
       let says : Says h r′ (record { phase = clauses; block = record { table = σ .block .table; subject = t; rows = [] } }) =
       record {
         phaseIs = ap phaseOf (n .phaseIs);
-        low = omega (arith, n .phaseIs);
         holds = rw (n .typesAre, n .ctorsAre, n .fieldsAre) (w .holds);
         few = omega (arith, n .ctorsAre, w .few);
         subjectIs = n .subjectIs ∙ sym e;
@@ -217,18 +216,17 @@ module _ {h : Held} {s : State} {σ : scope.State} (z : Sized h) (w : Says h s �
           unsuited-steps (h .bytes) (g .new) _ (simplify (b .table) (b .subject) ps) (g .means ps read (b .table) given .0)
       clause-steps r (over {nodes₁ = nodes₁} {left₁ = left₁} {n = n} q l) free =
           let g : Simplifies (h .bytes) at (h .kinds) (h .counts) (h .arities) (h .starts) (h .fields) (b .subject) (s .used) (h .nodes) (h .left) nodes₁ left₁ (Kept n) = subst (λ (t : ℕ). Simplifies (h .bytes) at (h .kinds) (h .counts) (h .arities) (h .starts) (h .fields) t (s .used) (h .nodes) (h .left) nodes₁ left₁ (Kept n)) (w .subjectIs) q in
-          over-steps (h .bytes) (g .new) n b (simplify (b .table) (b .subject) ps) (g .means ps read (b .table) given .0) (omega (arith, w .rowsAre .counted, w .rowsAre .short))
+          over-steps (h .bytes) (g .new) n b (simplify (b .table) (b .subject) ps) (g .means ps read (b .table) given .0) (ap (λ (k : ℕ). leb (k + n) 4096) (sym (w .rowsAre .counted)) ∙ l)
       clause-steps r (row {nodes₁ = nodes₁} {left₁ = left₁} {n = n} {r = r′} q l nodesAre leftAre rowsAre m) free =
           let g : Simplifies (h .bytes) at (h .kinds) (h .counts) (h .arities) (h .starts) (h .fields) (b .subject) (s .used) (h .nodes) (h .left) nodes₁ left₁ (Kept n) = subst (λ (t : ℕ). Simplifies (h .bytes) at (h .kinds) (h .counts) (h .arities) (h .starts) (h .fields) t (s .used) (h .nodes) (h .left) nodes₁ left₁ (Kept n)) (w .subjectIs) q in
-          row-steps (h .bytes) (g .new) n b (simplify (b .table) (b .subject) ps) r′ (g .means ps read (b .table) given .0) (omega (arith, w .rowsAre .counted, w .rowsAre .short))
+          row-steps (h .bytes) (g .new) n b (simplify (b .table) (b .subject) ps) r′ (g .means ps read (b .table) given .0) (ap (λ (k : ℕ). leb (k + n) 4096) (sym (w .rowsAre .counted)) ∙ l)
           (λ v is size. record {
             phaseIs = ap phaseOf (m .phaseIs);
-            low = omega (arith, m .phaseIs);
             holds = rw (m .typesAre, m .ctorsAre, m .fieldsAre) (w .holds);
             few = omega (arith, m .ctorsAre, w .few);
             subjectIs = m .subjectIs ∙ w .subjectIs;
             clausesAre = omega (arith, m .clausesAre, w .clausesAre, length-append (b .rows) (v ∷ []));
-            rowsAre = more-rows g (omega (arith, w .rowsAre .short)) nodesAre leftAre rowsAre free is size (r′ .count) (r′ .used) (m .countIs) (m .usedIs);
+            rowsAre = more-rows g (leb-true (s .count + n) 4096 l) nodesAre leftAre rowsAre free is size (r′ .count) (r′ .used) (m .countIs) (m .usedIs);
             inPhase = a;
           })
 
@@ -239,7 +237,6 @@ module _ {h : Held} {s : State} {σ : scope.State} (z : Sized h) (w : Says h s �
         let says : Says h r (record { phase = closed; block = σ .block }) =
         record {
           phaseIs = ap phaseOf (m .phaseIs);
-          low = omega (arith, m .phaseIs);
           holds = rw (m .typesAre, m .ctorsAre, m .fieldsAre) (w .holds);
           few = omega (arith, m .ctorsAre, w .few);
           subjectIs = m .subjectIs ∙ w .subjectIs;

@@ -1,5 +1,5 @@
 -- What the slices and the numbers say, kept by each line.
-pub mod Checks
+mod Numbers
 pub mod Framing
 pub mod Entering
 pub mod Stepping

@@ -1,5 +1,5 @@
 -- One line: where its frame passed the tests, what each kind's part asks and what the whole step answers.
-use mathlib.Core.Path.{_≡_, refl, sym, ap, subst, _∙_}
+use mathlib.Core.Path.{_≡_, refl, sym, ap, _∙_}
 use mathlib.Core.Bool.{true}
 use mathlib.Core.List.{List, []}
 use Prim.Native.Nat.{ℕ, zero, suc, _+_, _-_, _≤_, _<_, _^_}
@@ -7,7 +7,7 @@ use native.Mathlib.Omega.{arith}
 use borrow.Author.Tests.{ltb-true, leb-true}
 use lib.ListN.{length, getD, drop}
 use lib.Dec.{ltb, leb}
-use Rattle.scope.proofs.Tests.{both}
+use Rattle.scope.proofs.Tests.{clash, both}
 use Rattle.scope.specs.Frames.{Frame, isKind}
 use Rattle.scope.specs.Blocks as scope
 use Rattle.scope.specs.Blocks.{ok, refuse, enter, framed}
@@ -16,11 +16,12 @@ use Rattle.order.specs.declared.State.{State}
 use Rattle.order.specs.Phases.{roomIn}
 use Rattle.entering.specs.declared.Step.{Step}
 use Rattle.entering.specs.declared.Step.the-variants.{On, Refused}
-use Rattle.entering.specs.declared.Kind.{Kind}
-use Rattle.entering.specs.declared.Kind as kind
-use Rattle.entering.specs.Said.{Held, held, Sized, Says, Stepped, stops, checked}
-use Rattle.entering.specs.Enters.{EntersType, EntersCtor, EntersSubject, EntersClause, Ended, Kinded}
-use Rattle.entering.proofs.Checks.{begins}
+use Rattle.admitting.specs.declared.Kind.{Kind}
+use Rattle.admitting.specs.declared.Kind as kind
+use Rattle.admitting.specs.Checked.{checked, kindOf}
+use Rattle.admitting.proofs.Checks.{begins}
+use Rattle.entering.specs.Said.{Held, held, Sized, Says, Stepped, stops}
+use Rattle.entering.specs.Enters.{EntersType, EntersCtor, EntersSubject, EntersClause, Ended}
 use Rattle.entering.proofs.Framing.{Passed, passed, type-frame, constructor-frame, subject-frame, clause-frame, end-frame, byte-is, framed-is, above, some-type, last-is, sound-clause, sound-end}
 use Rattle.entering.proofs.Entering.{sound-parts, type-steps, ctor-steps, subject-steps, clause-steps, end-steps}
 
@@ -47,13 +48,21 @@ is-end (suc (suc (suc (suc zero)))) i a b c d = absurd (d refl)
 is-end (suc (suc (suc (suc (suc zero))))) i a b c d = refl
 is-end (suc (suc (suc (suc (suc (suc k)))))) i a b c d = absurd (omega (arith, leb-true (suc (suc (suc (suc (suc (suc k)))))) 5 (both (leb 1 (suc (suc (suc (suc (suc (suc k))))))) (leb (suc (suc (suc (suc (suc (suc k)))))) 5) i .1)))
 
--- the kind that was found, or the refusal
-module _ (bytes : List ℕ) (at : ℕ) (s : State) (last : ℕ) (r : Kind) (x : Kinded bytes at s last r) where
+-- the kind that was found, or the refusal, by the answer to the tests
+kind-from : (x : scope.Step Frame) (b k : ℕ) → kindOf x b ≡ kind.the-variants.Is k → (k ≡ b) × ((f : Frame) × (x ≡ ok f))
+kind-from (ok f) b k e = let i : b ≡ k = cc in (sym i, (f, refl))
+kind-from (refuse n) b k e = clash (cc)
+
+refused-from : (x : scope.Step Frame) (b n : ℕ) → kindOf x b ≡ kind.the-variants.Refused n → x ≡ refuse n
+refused-from (ok f) b n e = clash (cc)
+refused-from (refuse m) b n e = let i : m ≡ n = cc in ap refuse i
+
+module _ (bytes : List ℕ) (at : ℕ) (s : State) (last : ℕ) (r : Kind) (x : r ≡ kindOf (checked s last (drop at bytes)) (getD bytes at 0)) where
   pub as-kind : (k : ℕ) → r ≡ kind.the-variants.Is k → (k ≡ getD bytes at 0) × ((f : Frame) × (checked s last (drop at bytes) ≡ ok f))
-  as-kind k e = subst (λ (v : Kind). Kinded bytes at s last v) e x
+  as-kind k e = kind-from (checked s last (drop at bytes)) (getD bytes at 0) k (sym x ∙ e)
 
   pub as-refused : (n : ℕ) → r ≡ kind.the-variants.Refused n → checked s last (drop at bytes) ≡ refuse n
-  as-refused n e = subst (λ (v : Kind). Kinded bytes at s last v) e x
+  as-refused n e = refused-from (checked s last (drop at bytes)) (getD bytes at 0) n (sym x ∙ e)
 
 module _ {h : Held} {s : State} {σ : scope.State} (w : Says h s σ) (last : ℕ) (lastIs : 0 < s .types → last ≡ getD (h .counts) (s .types - 1) 0) (at : ℕ) where
   -- a fault before what the frame adds
@@ -73,7 +82,7 @@ module _ {h : Held} {s : State} {σ : scope.State} (w : Says h s σ) (last : ℕ
     entered e = rw (framed-is w last lastIs (drop at (h .bytes)), fine) e
 
     past : (j : ℕ) → k ≡ j → Passed s last j (drop (at + 1) (h .bytes)) f
-    past j e = passed s last j (drop (at + 1) (h .bytes)) f (ap (checked s last) (sym (begins (h .bytes) at inside s last j (sym e ∙ here))) ∙ fine)
+    past j e = passed s last j (drop (at + 1) (h .bytes)) f (ap (checked s last) (sym (begins (h .bytes) at j inside (sym e ∙ here))) ∙ fine)
 
     pub type-asks : k ≡ 1 → s .types < 64
     type-asks e = room-type s last (past 1 e .roomHere)

@@ -2,11 +2,10 @@
 use mathlib.Core.Path.{_≡_}
 use mathlib.Core.Bool.{true, false, cond}
 use mathlib.Core.List.{List}
-use Prim.Native.Nat.{ℕ, _+_, _-_, _%_, _≤_, _<_}
-use lib.ListN.{length, getD, drop, set}
-use lib.Dec.{eqb}
-use Rattle.scope.specs.Frames.{Frame}
-use Rattle.scope.specs.Blocks.{ok, refuse}
+use Prim.Native.Nat.{ℕ, _+_, _-_, _%_}
+use lib.ListN.{length, getD, set}
+use lib.Dec.{leb, eqb}
+use Rattle.scope.specs.Limits.{maxNodes}
 use Rattle.table.specs.Build.{typeFields, WithType, arityIn, WithCtor}
 use Rattle.fresh.specs.Fresh.{isFreshIn}
 use Rattle.sound.specs.Sound.{isSoundIn}
@@ -16,9 +15,6 @@ use Rattle.order.specs.declared.State.{State}
 use Rattle.order.specs.Phases.{Numbers}
 use Rattle.entering.specs.declared.Step.{Step}
 use Rattle.entering.specs.declared.Step.the-variants.{On, Refused}
-use Rattle.entering.specs.declared.Kind.{Kind}
-use Rattle.entering.specs.declared.Kind as kind
-use Rattle.entering.specs.Said.{checked}
 
 -- one more type; its kind says which phase is next
 pub record EntersType (bytes : List ℕ) (at : ℕ) (s : State) (kinds counts arities starts fields kinds′ counts′ arities′ starts′ fields′ : List ℕ) (r : State) : Type 0 where
@@ -36,11 +32,6 @@ pub data EntersSubject (bytes : List ℕ) (at : ℕ) (s : State) (kinds counts a
   unsound : isSoundIn kinds counts arities starts fields (s .fields) (s .types) (getD bytes at 0) ≡ false → EntersSubject bytes at s kinds counts arities starts fields (Refused 7)
   sound : {r : State} → isSoundIn kinds counts arities starts fields (s .fields) (s .types) (getD bytes at 0) ≡ true → Numbers r 2 (s .types) (s .ctors) (s .fields) (getD bytes at 0) → EntersSubject bytes at s kinds counts arities starts fields (On r)
 
--- the kind of a line's frame, where no fault comes before what the frame adds
-abbrev pub Kinded : List ℕ → ℕ → State → ℕ → Kind → Type 0
-Kinded bytes at s last (kind.the-variants.Is k) = (k ≡ getD bytes at 0) × ((f : Frame) × (checked s last (drop at bytes) ≡ ok f))
-Kinded bytes at s last (kind.the-variants.Refused n) = checked s last (drop at bytes) ≡ refuse n
-
 -- after a clause of n nodes
 pub record OneMore (s : State) (n : ℕ) (r : State) : Type 0 where
   pub phaseIs : r .phase ≡ 2
@@ -55,8 +46,8 @@ pub record OneMore (s : State) (n : ℕ) (r : State) : Type 0 where
 -- one more row with a terminator, or 8, or 9
 pub data EntersClause (bytes : List ℕ) (at : ℕ) (s : State) (kinds counts arities starts fields nodes left rows nodes′ left′ rows′ : List ℕ) : Step → Type 0 where
   unsuited : {nodes₁ left₁ : List ℕ} → Simplifies bytes at kinds counts arities starts fields (s .subject) (s .used) nodes left nodes₁ left₁ Unsuited → EntersClause bytes at s kinds counts arities starts fields nodes left rows nodes′ left′ rows′ (Refused 8)
-  over : {nodes₁ left₁ : List ℕ} {n : ℕ} → Simplifies bytes at kinds counts arities starts fields (s .subject) (s .used) nodes left nodes₁ left₁ (Kept n) → 4096 - s .count < n → EntersClause bytes at s kinds counts arities starts fields nodes left rows nodes′ left′ rows′ (Refused 9)
-  row : {nodes₁ left₁ : List ℕ} {n : ℕ} {r : State} → Simplifies bytes at kinds counts arities starts fields (s .subject) (s .used) nodes left nodes₁ left₁ (Kept n) → n ≤ 4096 - s .count → nodes′ ≡ set nodes₁ (s .used + n) 0 → left′ ≡ set left₁ (s .used + n) 0 → rows′ ≡ set rows (s .clauses) (s .used % 65536)
+  over : {nodes₁ left₁ : List ℕ} {n : ℕ} → Simplifies bytes at kinds counts arities starts fields (s .subject) (s .used) nodes left nodes₁ left₁ (Kept n) → leb (s .count + n) maxNodes ≡ false → EntersClause bytes at s kinds counts arities starts fields nodes left rows nodes′ left′ rows′ (Refused 9)
+  row : {nodes₁ left₁ : List ℕ} {n : ℕ} {r : State} → Simplifies bytes at kinds counts arities starts fields (s .subject) (s .used) nodes left nodes₁ left₁ (Kept n) → leb (s .count + n) maxNodes ≡ true → nodes′ ≡ set nodes₁ (s .used + n) 0 → left′ ≡ set left₁ (s .used + n) 0 → rows′ ≡ set rows (s .clauses) (s .used % 65536)
       → OneMore s n r → EntersClause bytes at s kinds counts arities starts fields nodes left rows nodes′ left′ rows′ (On r)
 
 -- after the end only the phase is another

@@ -1,19 +1,18 @@
 -- What the slices and the numbers of the code say: a state of the definitions.
 use mathlib.Core.Path.{_≡_}
 use mathlib.Core.Bool.{true}
-use mathlib.Core.List.{List, [], _∷_}
+use mathlib.Core.List.{List, []}
 use Prim.Native.Nat.{ℕ, _+_, _≤_, _<_}
 use lib.ListN.{length, getD}
 use Rattle.scope.specs.Types.{Table}
 use Rattle.scope.specs.Patterns.{Matrix}
-use Rattle.scope.specs.Frames.{Frame, isKind, frame}
 use Rattle.scope.specs.Blocks as scope
-use Rattle.scope.specs.Blocks.{Block, Phase, types, constructors, clauses, closed, ok, refuse, need, wholly, isSound, nodesIn, _>>=_}
+use Rattle.scope.specs.Blocks.{Block, Phase, types, constructors, clauses, closed, ok, refuse, isSound, nodesIn}
 use Rattle.layout.specs.Types.{Holds}
 use Rattle.table.specs.Build.{EndsInData}
 use Rattle.patterns.specs.Rows.{RowAt}
 use Rattle.order.specs.declared.State.{State}
-use Rattle.order.specs.Phases.{phaseOf, standsIn, roomIn}
+use Rattle.order.specs.Phases.{phaseOf}
 use Rattle.entering.specs.declared.Step.{Step}
 use Rattle.entering.specs.declared.Step.the-variants.{On, Refused}
 
@@ -67,7 +66,6 @@ pub record Rows (bytes nodes left rows : List ℕ) (count used : ℕ) (table : T
 -- the slices and the numbers say what the lines so far have said
 pub record Says (h : Held) (s : State) (σ : scope.State) : Type 0 where
   pub phaseIs : phaseOf (s .phase) ≡ σ .phase
-  pub low : s .phase ≤ 3
   pub holds : Holds (h .bytes) (h .kinds) (h .counts) (h .arities) (h .starts) (h .names) (h .fields) (h .labels) (s .types) (s .ctors) (s .fields) (σ .block .table)
   pub few : s .ctors ≤ 256
   pub subjectIs : s .subject ≡ σ .block .subject
@@ -84,12 +82,3 @@ pub record Known (h : Held) (s : State) : Type 0 where
 pub data Stepped (h : Held) : Step → scope.Step scope.State → Type 0 where
   goes : {s : State} {σ : scope.State} → Says h s σ → Stepped h (On s) (ok σ)
   stops : (n : ℕ) → Stepped h (Refused n) (refuse n)
-
--- a line's frame: unknown kind (4), 5, 6, the rest of 4
-unfoldable pub checked : State → ℕ → List ℕ → scope.Step Frame
-checked s last [] = refuse 4
-checked s last (k ∷ bs) = do
-  _ ← need 4 (isKind k)
-  _ ← need 5 (standsIn (s .phase) k)
-  _ ← need 6 (roomIn s last k)
-  wholly (frame k bs)

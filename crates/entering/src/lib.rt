@@ -1,14 +1,13 @@
-// One line's bytes: unknown kind (4), 5, 6, the rest of 4, then what the frame adds: 7, 8, 9.
+// One line's bytes: its tests (4, 5, 6), then what the frame adds: 7, 8, 9.
+use admitting::Kind;
+use admitting::kind_of;
 use cells::at8;
 use cells::put16;
 use cells::wide8;
-use fields::Read;
-use frames::read_frame;
 use fresh::is_fresh;
 use nodes::close;
 use order::State;
-use order::has_room;
-use order::stands;
+use order::has_nodes;
 use patterns::Simplified;
 use patterns::simplify;
 use sound::is_sound;
@@ -22,7 +21,7 @@ ghost use lib.ListN.{length, getD, drop};
 ghost use Rattle.scope.specs.Blocks as scope;
 ghost use Rattle.scope.specs.Blocks.{framed};
 ghost use Rattle.entering.specs.Said.{held, Sized, Known, Says, Stepped};
-ghost use Rattle.entering.specs.Enters.{EntersType, EntersCtor, EntersSubject, EntersClause, Ended, Kinded};
+ghost use Rattle.entering.specs.Enters.{EntersType, EntersCtor, EntersSubject, EntersClause, Ended};
 
 pub enum Step {
     On(State),
@@ -196,7 +195,7 @@ fn enter_clause(
     let Simplified::Row { count } = r else {
         return Step::Refused(8);
     };
-    if 4096 - s.count < count {
+    if !has_nodes(s.count, count) {
         return Step::Refused(9);
     }
     close(nodes, left, used + count);
@@ -237,38 +236,6 @@ fn last_ctors(counts: &[u8], types: usize) -> usize
         return 0;
     }
     wide8(at8(counts, types - 1))
-}
-
-pub enum Kind {
-    Is(u8),
-    Refused(u8),
-}
-
-// The kind of a line's frame, where no fault comes before what the frame adds: unknown (4), 5, 6, the rest of 4.
-fn kind_of(bytes: &[u8], at: usize, s: State, last: usize) -> Kind
-    requires { ⌜ at < length (now bytes) ⌝ }
-    requires { ⌜ length (now bytes) ≤ 65536 ⌝ }
-    ensures { λ r. ⌜ Kinded (now (bytes .entry)) at s last r ⌝ }
-{
-    let f = read_frame(&bytes[at..]);
-    let kind = f.kind;
-    if kind == 0 {
-        return Kind::Refused(4);
-    }
-    if 5 < kind {
-        return Kind::Refused(4);
-    }
-    if !stands(s.phase, kind) {
-        return Kind::Refused(5);
-    }
-    if !has_room(s, last, kind) {
-        return Kind::Refused(6);
-    }
-    let end = f.end;
-    match end {
-        Read::At(_) => Kind::Is(kind),
-        Read::Fault(_) => Kind::Refused(4),
-    }
 }
 
 // A line's bytes, which stand from `at` to the end.

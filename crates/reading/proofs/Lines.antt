@@ -1,6 +1,6 @@
 -- The lines of a file, one after another: what is said so far, and that what is left of the file decides as the definitions do.
 use mathlib.Core.Path.{_≡_, refl, sym, ap, subst, _∙_}
-use mathlib.Core.Bool.{true, false, _&&_}
+use mathlib.Core.Bool.{Bool, true, false, cond, _&&_}
 use mathlib.Core.List.{List, [], _∷_, _++_}
 use Prim.Native.Nat.{ℕ, zero, suc, _+_, _*_, _-_, _%_, _≤_, _<_}
 use native.Mathlib.Omega.{arith}
@@ -15,7 +15,7 @@ use Rattle.scope.specs.Lines.{Line, ended, lines, isHex, unhex, isLine}
 use Rattle.scope.specs.Types.{Table}
 use Rattle.scope.specs.Patterns.{Matrix}
 use Rattle.scope.specs.Blocks as scope
-use Rattle.scope.specs.Blocks.{Phase, types, clauses, start, ok, refuse, goOn, framed, line, parsed, faulty, finish, parse, blockOf}
+use Rattle.scope.specs.Blocks.{Phase, types, constructors, clauses, closed, start, ok, refuse, goOn, framed, line, parsed, faulty, finish, parse, blockOf}
 use Rattle.hex.specs.declared.Line as hex
 use Rattle.hex.specs.Digits.{TakenLine, RefusedLine, Lined}
 use Rattle.table.proofs.Held.{take-through}
@@ -23,12 +23,12 @@ use Rattle.table.proofs.Carried.{empty-holds, more-holds}
 use Rattle.patterns.specs.Rows.{RowAt}
 use Rattle.patterns.proofs.Rows.{row-grown}
 use Rattle.order.specs.declared.State.{State}
-use Rattle.order.specs.Phases.{phaseOf, Numbers}
+use Rattle.order.specs.Phases.{phaseOf, isClosed, closesIn, Numbers}
 use Rattle.entering.specs.declared.Step.{Step}
 use Rattle.entering.specs.declared.Step.the-variants.{On, Refused}
 use Rattle.reading.specs.declared.file.Parsed as answers
 use Rattle.entering.specs.Said.{Held, held, Sized, Rows, Says, Stepped, goes, stops}
-use Rattle.reading.specs.Files.{HoldsBlock, fileOf, LinesAs}
+use Rattle.reading.specs.Files.{HoldsBlock, fileOf, endOf, LinesAs, saysBlock, saysFault}
 use Rattle.entering.proofs.Entering.{no-rows}
 use Rattle.reading.proofs.Whole.{file-lines}
 
@@ -56,7 +56,6 @@ pub says-grown : {h : Held} {s : State} {σ : scope.State} (more : List ℕ) →
 says-grown {h} more w =
     record {
       phaseIs = w .phaseIs;
-      low = w .low;
       holds = more-holds (h .bytes) more (w .holds);
       few = w .few;
       subjectIs = w .subjectIs;
@@ -102,7 +101,6 @@ within-start file l s bytes kinds counts arities starts names fields labels node
       state = start;
       says = record {
         phaseIs = ap phaseOf (n .phaseIs);
-        low = omega (arith, n .phaseIs);
         holds = rw (n .typesAre, n .ctorsAre, n .fieldsAre, e) (empty-holds (take 0 bytes) kinds counts arities starts names fields 5120);
         few = omega (arith, n .ctorsAre);
         subjectIs = n .subjectIs;
@@ -188,20 +186,20 @@ module _ {file : List ℕ} {k i at : ℕ} {s : State} {h : Held} (v : Within fil
     unfolding lines parse
     at-end = v .onward ∙ ap (λ (l : List ℕ). parse k (v .state) (lines l)) (drop-of-length-le file done)
 
-    pub no-end : (s .phase ≡ 3 → ⊥) → fileOf file ≡ faulty 5 k
-    no-end e = at-end ∙ ap (λ (p : Phase). finish k (record { phase = p; block = v .state .block })) (sym (v .says .phaseIs)) ∙ open-phase (s .phase) (v .says .low) e
+    by-phase : fileOf file ≡ cond (closesIn (s .phase)) (parsed (v .state .block)) (faulty 5 k)
+    unfolding closesIn
+    by-phase = at-end ∙ at-phase (v .state .phase) ∙ ap (λ (p : Phase). cond (isClosed p) (parsed (v .state .block)) (faulty 5 k)) (sym (v .says .phaseIs))
       where
-        open-phase : (p : ℕ) → p ≤ 3 → (p ≡ 3 → ⊥) → finish k (record { phase = phaseOf p; block = v .state .block }) ≡ faulty 5 k
-        open-phase zero l d = refl
-        open-phase (suc zero) l d = refl
-        open-phase (suc (suc zero)) l d = refl
-        open-phase (suc (suc (suc zero))) l d = absurd (d refl)
-        open-phase (suc (suc (suc (suc p)))) l d = absurd (omega arith)
+        at-phase : (p : Phase) → finish k (record { phase = p; block = v .state .block }) ≡ cond (isClosed p) (parsed (v .state .block)) (faulty 5 k)
+        at-phase types = refl
+        at-phase constructors = refl
+        at-phase clauses = refl
+        at-phase closed = refl
 
-    pub the-block : s .phase ≡ 3 → (bytes : List ℕ) → h .bytes ≡ take at bytes → LinesAs file (grown h bytes) (answers.the-variants.Block (s .subject) (s .clauses) (s .types))
+    the-block : closesIn (s .phase) ≡ true → (bytes : List ℕ) → h .bytes ≡ take at bytes → LinesAs file (grown h bytes) (answers.the-variants.Block (s .subject) (s .clauses) (s .types))
     the-block e bytes so-far =
         let b = v .state .block in
-        let is : fileOf file ≡ parsed b = at-end ∙ ap (λ (p : Phase). finish k (record { phase = p; block = b })) (sym (v .says .phaseIs) ∙ ap phaseOf e) in
+        let is : fileOf file ≡ parsed b = by-phase ∙ ap (λ (c : Bool). cond c (parsed b) (faulty 5 k)) e in
         let whole : h .bytes ++ drop at bytes ≡ bytes = ap (λ (l : List ℕ). l ++ drop at bytes) so-far ∙ take-append-drop at bytes in
         let w : Says (grown h bytes) s (v .state) = subst (λ (l : List ℕ). Says (grown h l) s (v .state)) whole (says-grown (drop at bytes) (v .says)) in
         let g = block-good (lines file) b (sym (file-lines file (v .short)) ∙ is) in
@@ -227,4 +225,12 @@ module _ {file : List ℕ} {k i at : ℕ} {s : State} {h : Held} (v : Within fil
           fewClauses = few;
           sized = resized (v .sized) bytes;
         } in
-        (b, is, there)
+        saysBlock b is there
+
+    pub at-last : (bytes : List ℕ) → h .bytes ≡ take at bytes → (r : answers.Parsed) → r ≡ endOf s k → LinesAs file (grown h bytes) r
+    unfolding endOf
+    at-last bytes so-far r e = subst (λ (x : answers.Parsed). LinesAs file (grown h bytes) x) (sym e) (go (closesIn (s .phase)) refl)
+      where
+        go : (c : Bool) → closesIn (s .phase) ≡ c → LinesAs file (grown h bytes) (cond c (answers.the-variants.Block (s .subject) (s .clauses) (s .types)) (answers.the-variants.Faulty 5 k))
+        go true c = the-block c bytes so-far
+        go false c = saysFault (by-phase ∙ ap (λ (x : Bool). cond x (parsed (v .state .block)) (faulty 5 k)) c)

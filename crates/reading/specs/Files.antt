@@ -13,6 +13,8 @@ use Rattle.scope.specs.Blocks.{isSound, parsed, faulty, blockOf}
 use Rattle.layout.specs.Types.{Holds}
 use Rattle.layout.specs.Nodes.{HoldsRows}
 use Rattle.patterns.specs.Rows.{RowAt}
+use Rattle.order.specs.declared.State.{State}
+use Rattle.order.specs.Phases.{closesIn}
 use Rattle.reading.specs.declared.file.Parsed.{Parsed}
 use Rattle.reading.specs.declared.file.Parsed.the-variants.{Block, Faulty}
 use Rattle.entering.specs.Said.{Held, Sized}
@@ -49,15 +51,14 @@ pub record Blank (h : Held) : Type 0 where
 unfoldable pub fileOf : List ℕ → scope.Parsed
 fileOf file = let read = blockOf (lines file) in cond (ltb maxFile (length file)) (faulty 2 0) read
 
--- the block that the file says, in the slices, or the refusal and its line
-abbrev pub LinesAs : List ℕ → Held → Parsed → Type 0
-LinesAs file h (Block subject clauses types) = (b : scope.Block) × (fileOf file ≡ parsed b) × HoldsBlock h subject clauses types b
-LinesAs file h (Faulty n k) = fileOf file ≡ faulty n k
+-- after the last line: the block, or no end (5) at the line after it
+unfoldable pub endOf : State → ℕ → Parsed
+endOf s k = cond (closesIn (s .phase)) (Block (s .subject) (s .clauses) (s .types)) (Faulty 5 k)
 
--- a block's slices stay as they are; a refusal's are blank
-pub data Settled (h h′ : Held) : Parsed → Type 0 where
-  stays : {subject clauses types : ℕ} → h′ ≡ h → Settled h h′ (Block subject clauses types)
-  blanks : {n k : ℕ} → Blank h′ → Settled h h′ (Faulty n k)
+-- the block that the file says, in the slices, or the refusal and its line
+pub data LinesAs (file : List ℕ) (h : Held) : Parsed → Type 0 where
+  saysBlock : {subject clauses types : ℕ} (b : scope.Block) → fileOf file ≡ parsed b → HoldsBlock h subject clauses types b → LinesAs file h (Block subject clauses types)
+  saysFault : {n k : ℕ} → fileOf file ≡ faulty n k → LinesAs file h (Faulty n k)
 
 -- the block that the file says, in the slices, or the refusal and its line, and the slices are blank
 pub data ReadAs (file : List ℕ) (h : Held) : Parsed → Type 0 where

@@ -1,16 +1,23 @@
 // A file: 2, then its lines, one step each.
 use cells::clear;
 use cells::clear8;
+use clearing::clear_ctors;
+use clearing::clear_fields;
+use clearing::clear_rows;
+use clearing::clear_types;
 use entering::Step;
 use entering::enter_line;
 use hex::Line;
 use hex::read_line;
+use order::State;
+use order::closes;
+use order::is_long;
 use order::start;
 ghost use mathlib.Core.Path.{_≡_};
 ghost use Prim.Native.Nat.{_≤_};
 ghost use lib.ListN.{length, replicate};
 ghost use Rattle.entering.specs.Said.{held, Sized};
-ghost use Rattle.reading.specs.Files.{LinesAs, Settled, ReadAs};
+ghost use Rattle.reading.specs.Files.{endOf, LinesAs, ReadAs};
 
 pub enum Parsed {
     Block {
@@ -22,6 +29,20 @@ pub enum Parsed {
         number: u8,
         line: usize,
     },
+}
+
+// After the last line: the block, or 5 at the line after it.
+fn ended(s: State, k: usize) -> Parsed
+    ensures { λ r. ⌜ r ≡ endOf s k ⌝ }
+{
+    if closes(s.phase) {
+        return Parsed::Block {
+            subject: s.subject,
+            clauses: s.clauses,
+            types: s.types,
+        };
+    }
+    Parsed::Faulty { number: 5, line: k }
 }
 
 // The block that a file says, in the slices, or the refusal and its line: 2, then line by line.
@@ -46,7 +67,7 @@ fn read_lines(
     requires { ⌜ 1920 ≤ length (now stack) ⌝ }
     ensures { λ r. ⌜ LinesAs (now (file .entry)) (held (now (bytes .exit)) (now (kinds .exit)) (now (counts .exit)) (now (arities .exit)) (now (starts .exit)) (now (names .exit)) (now (fields .exit)) (now (labels .exit)) (now (nodes .exit)) (now (left .exit)) (now (rows .exit))) r ⌝ }
 {
-    if 49152 < file.len() {
+    if is_long(file.len()) {
         return Parsed::Faulty { number: 2, line: 0 };
     }
     let mut s = start();
@@ -86,50 +107,7 @@ fn read_lines(
             }
         }
     }
-    if s.phase == 3 {
-        return Parsed::Block {
-            subject: s.subject,
-            clauses: s.clauses,
-            types: s.types,
-        };
-    }
-    Parsed::Faulty { number: 5, line: k }
-}
-
-// After a refusal every slice is zero; the stack is in any case.
-fn settle(
-    r: Parsed,
-    bytes: &mut [u8],
-    kinds: &mut [u8],
-    counts: &mut [u8],
-    arities: &mut [u8],
-    starts: &mut [u16],
-    names: &mut [u16],
-    fields: &mut [u8],
-    labels: &mut [u16],
-    stack: &mut [u16],
-    nodes: &mut [u16],
-    left: &mut [u16],
-    rows: &mut [u16],
-)
-    ensures { λ _. ⌜ Settled (held (now (bytes .entry)) (now (kinds .entry)) (now (counts .entry)) (now (arities .entry)) (now (starts .entry)) (now (names .entry)) (now (fields .entry)) (now (labels .entry)) (now (nodes .entry)) (now (left .entry)) (now (rows .entry))) (held (now (bytes .exit)) (now (kinds .exit)) (now (counts .exit)) (now (arities .exit)) (now (starts .exit)) (now (names .exit)) (now (fields .exit)) (now (labels .exit)) (now (nodes .exit)) (now (left .exit)) (now (rows .exit))) r ⌝ }
-    ensures { λ _. ⌜ now (stack .exit) ≡ replicate (length (now (stack .entry))) 0 ⌝ }
-{
-    clear(stack);
-    let Parsed::Faulty { .. } = r else {
-        return;
-    };
-    clear8(bytes);
-    clear8(kinds);
-    clear8(counts);
-    clear8(arities);
-    clear(starts);
-    clear(names);
-    clear8(fields);
-    clear(labels);
-    clear(nodes);
-    clear(left);
-    clear(rows);
+    ended(s, k)
 }
 
 // The block that a file says, in the slices, or the refusal and its line, and the slices zero.
@@ -170,20 +148,14 @@ pub fn read(
         left,
         rows,
     );
-    settle(
-        r,
-        bytes,
-        kinds,
-        counts,
-        arities,
-        starts,
-        names,
-        fields,
-        labels,
-        stack,
-        nodes,
-        left,
-        rows,
-    );
+    clear(stack);
+    let Parsed::Faulty { .. } = r else {
+        return r;
+    };
+    clear8(bytes);
+    clear_types(kinds, counts);
+    clear_ctors(arities, starts, names);
+    clear_fields(fields, labels);
+    clear_rows(nodes, left, rows);
     r
 }

@@ -2,7 +2,7 @@
 use mathlib.Core.Path.{refl, _∙_}
 use borrow.Author.Tests.{not-true, not-false}
 use Rattle.entering.specs.Enters.{unsound, sound}
-use Rattle.entering.proofs.Checks.{subject-bit}
+use Rattle.entering.proofs.Numbers.{subject-bit}
 use borrow.Author.Needs.{needs}
 use Rattle.entering.proofs.enter_subject.Statement.{statement}
 use Rattle.entering.proofs.enter_subject.Tie as tie

@@ -1,6 +1,6 @@
 -- `entering::enter_type` meets its contract: from what `add_type` does, and the kind of type.
 use mathlib.Core.Path.{refl, sym}
-use Rattle.entering.proofs.Checks.{type-phase-is}
+use Rattle.entering.proofs.Numbers.{type-phase-is}
 use borrow.Author.Needs.{needs}
 use Rattle.entering.proofs.enter_type.Statement.{statement}
 use Rattle.entering.proofs.enter_type.Tie as tie

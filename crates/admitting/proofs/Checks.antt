@@ -1,44 +1,42 @@
 -- The tests of a line before what its frame adds, branch by branch: refusals 4, 5 and 6, from the place and the room of its frame.
 use mathlib.Core.Path.{_≡_, sym, ap, _∙_}
-use mathlib.Core.Bool.{Bool, true, false, cond}
+use mathlib.Core.Bool.{true, false}
 use mathlib.Core.List.{List, _∷_}
 use Prim.Native.Nat.{ℕ, _+_, _-_, _≤_, _<_}
 use native.Mathlib.Omega.{arith}
-use borrow.Author.Tests.{le-leb, lt-leb, eq-eqb, ne-eqb}
+use borrow.Author.Tests.{le-leb, lt-leb}
 use lib.ListN.{length, getD, take, drop, length-drop}
-use lib.Dec.{eqb}
 use lib.Seq.{take-all, getD-drop, drop-drop, drop-cons}
 use native.Mathlib.Nat.{add-zero}
 use native.Mathlib.Numerals.{add-one}
-use Rattle.scope.specs.Frames.{Frame, isKind, frame}
-use Rattle.scope.specs.Blocks.{ok, refuse, wholly}
+use Rattle.scope.specs.Frames.{isKind, frame}
+use Rattle.scope.specs.Blocks.{refuse, wholly}
 use Rattle.fields.specs.declared.Read.the-variants.{At, Fault}
 use Rattle.fields.specs.Places.{placed, readAt}
 use Rattle.shape.specs.Wholes.{whole}
 use Rattle.shape.proofs.Wholes.{whole-ok, whole-refused}
 use Rattle.frames.specs.declared.Framed.{Framed}
 use Rattle.frames.specs.Lines.{frameOf}
-use Rattle.sound.specs.Sound.{isSoundIn}
 use Rattle.order.specs.declared.State.{State}
 use Rattle.order.specs.Phases.{standsIn, roomIn}
-use Rattle.entering.specs.Said.{checked}
+use Rattle.admitting.specs.declared.Kind.the-variants.{Is, Refused}
+use Rattle.admitting.specs.Checked.{checked, kindOf}
 
 -- a line begins with its kind
-module _ (bytes : List ℕ) (at : ℕ) (inside : at < length bytes) (s : State) (last k : ℕ) (here : k ≡ getD bytes at 0) where
-  pub begins : drop at bytes ≡ k ∷ drop (at + 1) bytes
-  begins = drop-cons bytes at 0 inside ∙ ap (λ (i : ℕ). getD bytes at 0 ∷ drop i bytes) (sym (add-one at)) ∙ ap (λ (i : ℕ). i ∷ drop (at + 1) bytes) (sym here)
+pub begins : (bytes : List ℕ) (at k : ℕ) → at < length bytes → k ≡ getD bytes at 0 → drop at bytes ≡ k ∷ drop (at + 1) bytes
+begins bytes at k inside here = drop-cons bytes at 0 inside ∙ ap (λ (i : ℕ). getD bytes at 0 ∷ drop i bytes) (sym (add-one at)) ∙ ap (λ (i : ℕ). i ∷ drop (at + 1) bytes) (sym here)
 
 -- the order of the refusals, from the frame f that is read of the line
 module _ (bytes : List ℕ) (at : ℕ) (inside : at < length bytes) (s : State) (last : ℕ) (f : Framed) (read : f ≡ frameOf (take (length bytes - at) (drop at bytes))) where
   line-is : take (length bytes - at) (drop at bytes) ≡ drop at bytes
   line-is = take-all (length bytes - at) (drop at bytes) (omega (arith, length-drop at bytes))
 
-  pub kind-read : f .kind ≡ getD bytes at 0
+  kind-read : f .kind ≡ getD bytes at 0
   unfolding frameOf
   kind-read = ap (λ (g : Framed). g .kind) read ∙ ap (λ (bs : List ℕ). getD bs 0 0) line-is ∙ getD-drop at bytes 0 0 ∙ ap (λ (i : ℕ). getD bytes i 0) (add-zero at)
 
   starts : drop at bytes ≡ f .kind ∷ drop (at + 1) bytes
-  starts = begins bytes at inside s last (f .kind) kind-read
+  starts = begins bytes at (f .kind) inside kind-read
 
   end-read : f .end ≡ placed (length bytes - at) (whole (frame (f .kind) (drop (at + 1) bytes)))
   unfolding frameOf
@@ -47,11 +45,11 @@ module _ (bytes : List ℕ) (at : ℕ) (inside : at < length bytes) (s : State) 
       of-line ∙ ap (λ (i : ℕ). readAt (drop at bytes) 1 (λ bs. whole (frame i bs))) (getD-drop at bytes 0 0 ∙ ap (λ (i : ℕ). getD bytes i 0) (add-zero at) ∙ sym kind-read)
       ∙ ap (λ (bs : List ℕ). placed (length (drop at bytes)) (whole (frame (f .kind) bs))) (drop-drop 1 at bytes) ∙ ap (λ (n : ℕ). placed n (whole (frame (f .kind) (drop (at + 1) bytes)))) (length-drop at bytes)
 
-  pub kind-zero : f .kind ≡ 0 → checked s last (drop at bytes) ≡ refuse 4
+  pub kind-zero : f .kind ≡ 0 → Refused 4 ≡ kindOf (checked s last (drop at bytes)) (getD bytes at 0)
   unfolding checked
   kind-zero e = rw (starts, e)
 
-  pub kind-over : 5 < f .kind → checked s last (drop at bytes) ≡ refuse 4
+  pub kind-over : 5 < f .kind → Refused 4 ≡ kindOf (checked s last (drop at bytes)) (getD bytes at 0)
   unfolding checked
   kind-over l = rw (starts, le-leb 1 (f .kind) (omega arith), lt-leb (f .kind) 5 l)
 
@@ -59,27 +57,19 @@ module _ (bytes : List ℕ) (at : ℕ) (inside : at < length bytes) (s : State) 
   is-kind z l = rw (le-leb 1 (f .kind) (omega arith), le-leb (f .kind) 5 l)
 
   module _ (z : f .kind ≡ 0 → ⊥) (l : f .kind ≤ 5) where
-    pub out-of-place : standsIn (s .phase) (f .kind) ≡ false → checked s last (drop at bytes) ≡ refuse 5
+    pub out-of-place : standsIn (s .phase) (f .kind) ≡ false → Refused 5 ≡ kindOf (checked s last (drop at bytes)) (getD bytes at 0)
     unfolding checked
     out-of-place a = rw (starts, is-kind z l, a)
 
-    pub too-many : standsIn (s .phase) (f .kind) ≡ true → roomIn s last (f .kind) ≡ false → checked s last (drop at bytes) ≡ refuse 6
+    pub too-many : standsIn (s .phase) (f .kind) ≡ true → roomIn s last (f .kind) ≡ false → Refused 6 ≡ kindOf (checked s last (drop at bytes)) (getD bytes at 0)
     unfolding checked
     too-many a b = rw (starts, is-kind z l, a, b)
 
     module _ (a : standsIn (s .phase) (f .kind) ≡ true) (b : roomIn s last (f .kind) ≡ true) (q : ℕ) where
-      pub not-whole : f .end ≡ Fault q → checked s last (drop at bytes) ≡ refuse 4
+      pub not-whole : f .end ≡ Fault q → Refused 4 ≡ kindOf (checked s last (drop at bytes)) (getD bytes at 0)
       unfolding checked
-      not-whole e = let w : wholly (frame (f .kind) (drop (at + 1) bytes)) ≡ refuse 4 = whole-refused (length bytes - at) (frame (f .kind) (drop (at + 1) bytes)) (f .end) q end-read e in rw (starts, is-kind z l, a, b) w
+      not-whole e = let w : wholly (frame (f .kind) (drop (at + 1) bytes)) ≡ refuse 4 = whole-refused (length bytes - at) (frame (f .kind) (drop (at + 1) bytes)) (f .end) q end-read e in rw (starts, is-kind z l, a, b, w)
 
-      pub whole-frame : f .end ≡ At q → (g : Frame) × (checked s last (drop at bytes) ≡ ok g)
+      pub whole-frame : f .end ≡ At q → Is (f .kind) ≡ kindOf (checked s last (drop at bytes)) (getD bytes at 0)
       unfolding checked
-      whole-frame e = let w = whole-ok (length bytes - at) (frame (f .kind) (drop (at + 1) bytes)) (f .end) q end-read e in (w .0, rw (starts, is-kind z l, a, b) (w .1))
-
--- the number of the phase after a type frame
-pub type-phase-is : (k n : ℕ) → k ≡ n → (k ≡ 6 → _≡_ {A = ℕ} (cond (eqb n 6) 1 0) 1) × ((k ≡ 6 → ⊥) → _≡_ {A = ℕ} (cond (eqb n 6) 1 0) 0)
-type-phase-is k n e = (λ i. rw (eq-eqb n 6 (sym e ∙ i)), λ i. rw (ne-eqb n 6 (λ j. i (e ∙ j))))
-
--- the subject's byte, widened
-pub subject-bit : (kinds counts arities starts fields : List ℕ) (used types t n : ℕ) {b : Bool} → t ≡ n → b ≡ isSoundIn kinds counts arities starts fields used types t → isSoundIn kinds counts arities starts fields used types n ≡ b
-subject-bit kinds counts arities starts fields used types t n e f = sym (f ∙ ap (isSoundIn kinds counts arities starts fields used types) e)
+      whole-frame e = let w = whole-ok (length bytes - at) (frame (f .kind) (drop (at + 1) bytes)) (f .end) q end-read e in rw (starts, is-kind z l, a, b, w .1) (ap Is kind-read)

@@ -1,10 +1,10 @@
--- `entering::kind_of` meets its contract: the tests come in document 01's order.
+-- `admitting::kind_of` meets its contract: the tests come in document 01's order.
 use mathlib.Core.Path.{sym, _∙_}
 use borrow.Author.Tests.{not-true, not-false}
-use Rattle.entering.proofs.Checks.{kind-read, kind-zero, kind-over, out-of-place, too-many, not-whole, whole-frame}
+use Rattle.admitting.proofs.Checks.{kind-zero, kind-over, out-of-place, too-many, not-whole, whole-frame}
 use borrow.Author.Needs.{needs}
-use Rattle.entering.proofs.kind_of.Statement.{statement}
-use Rattle.entering.proofs.kind_of.Tie as tie
+use Rattle.admitting.proofs.kind_of.Statement.{statement}
+use Rattle.admitting.proofs.kind_of.Tie as tie
 
 sub-read-frame : tie.Need-sub-read-frame
 sub-read-frame c = search needs
@@ -48,7 +48,7 @@ enum-told-2 c = search needs
 
 returns-5 : tie.Need-returns-5
 returns-5 c =
-    (kind-read (c .before .before .before .before .before .before .before .before .before .before .before .args .bytes .now) (c .before .before .before .before .before .before .before .before .before .before .before .args .at) (c .before .before .before .before .before .before .before .before .before .before .before .pre .0) (c .before .before .before .before .before .before .before .before .before .before .before .args .s) (c .before .before .before .before .before .before .before .before .before .before .before .args .last) (c .before .before .before .before .before .before .before .before .read-frame .result) (c .before .before .before .before .before .before .before .before .read-frame .ensures), whole-frame (c .before .before .before .before .before .before .before .before .before .before .before .args .bytes .now) (c .before .before .before .before .before .before .before .before .before .before .before .args .at) (c .before .before .before .before .before .before .before .before .before .before .before .pre .0) (c .before .before .before .before .before .before .before .before .before .before .before .args .s) (c .before .before .before .before .before .before .before .before .before .before .before .args .last) (c .before .before .before .before .before .before .before .before .read-frame .result) (c .before .before .before .before .before .before .before .before .read-frame .ensures) (c .before .before .before .before .before .before .before .if1 .left) (c .before .before .before .before .before .before .if2 .left) (sym (c .before .before .before .before .before .stands .ensures) ∙ not-false _ (c .before .before .before .before .if3 .left)) (sym (c .before .before .before .has-room .ensures) ∙ not-false _ (c .before .before .if4 .left)) (c .enum-told .given .0 .0) (c .enum-told .given .1))
+    whole-frame (c .before .before .before .before .before .before .before .before .before .before .before .args .bytes .now) (c .before .before .before .before .before .before .before .before .before .before .before .args .at) (c .before .before .before .before .before .before .before .before .before .before .before .pre .0) (c .before .before .before .before .before .before .before .before .before .before .before .args .s) (c .before .before .before .before .before .before .before .before .before .before .before .args .last) (c .before .before .before .before .before .before .before .before .read-frame .result) (c .before .before .before .before .before .before .before .before .read-frame .ensures) (c .before .before .before .before .before .before .before .if1 .left) (c .before .before .before .before .before .before .if2 .left) (sym (c .before .before .before .before .before .stands .ensures) ∙ not-false _ (c .before .before .before .before .if3 .left)) (sym (c .before .before .before .has-room .ensures) ∙ not-false _ (c .before .before .if4 .left)) (c .enum-told .given .0 .0) (c .enum-told .given .1)
 
 returns-6 : tie.Need-returns-6
 returns-6 c =

@@ -1,0 +1,23 @@
+-- The tests of a line's frame, in document 01's order, by the numbers of the code; and the kind of a frame that passed them.
+use mathlib.Core.List.{List, [], _∷_}
+use Prim.Native.Nat.{ℕ}
+use Rattle.scope.specs.Frames.{Frame, isKind, frame}
+use Rattle.scope.specs.Blocks.{Step, ok, refuse, need, wholly, _>>=_}
+use Rattle.order.specs.declared.State.{State}
+use Rattle.order.specs.Phases.{standsIn, roomIn}
+use Rattle.admitting.specs.declared.Kind.{Kind}
+use Rattle.admitting.specs.declared.Kind.the-variants.{Is, Refused}
+
+-- a line's frame: unknown kind (4), 5, 6, the rest of 4
+unfoldable pub checked : State → ℕ → List ℕ → Step Frame
+checked s last [] = refuse 4
+checked s last (k ∷ bs) = do
+  _ ← need 4 (isKind k)
+  _ ← need 5 (standsIn (s .phase) k)
+  _ ← need 6 (roomIn s last k)
+  wholly (frame k bs)
+
+-- the kind k of the frame that passed, or the refusal
+abbrev pub kindOf : Step Frame → ℕ → Kind
+kindOf (ok f) k = Is k
+kindOf (refuse n) k = Refused n

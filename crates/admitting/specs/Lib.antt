@@ -1,0 +1,2 @@
+-- The tests of a line's frame before what it adds.
+pub mod Checked
