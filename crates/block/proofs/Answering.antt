@@ -1,13 +1,13 @@
 -- What a whole check answers and leaves, from the outcome of its file.
-use mathlib.Core.Path.{_≡_, refl, sym, ap, _∙_}
-use mathlib.Core.List.{List, [], _++_}
-use Prim.Native.Nat.{ℕ, _≤_, _<_}
-use lib.ListN.{length, drop, replicate}
+use mathlib.Core.Path.{_≡_, refl, sym, _∙_}
+use mathlib.Core.List.{List}
+use Prim.Native.Nat.{ℕ, _<_}
+use lib.ListN.{length, replicate}
 use Rattle.scope.specs.declared.Answer.{Answer}
 use Rattle.scope.specs.declared.Answer.the-variants.{Refused}
 use Rattle.scope.specs.Answer.{Outcome, refused, outcome, scratchAfter}
 use Rattle.scope.proofs.Answers.{outcome-1, answer-of, buffer-of}
-use Rattle.block.specs.Driver.{Given}
+use Rattle.fitting.specs.Given.{Given}
 use Rattle.block.specs.Check.{Checked}
 
 -- an outcome given, and the scratch cleared
@@ -19,10 +19,6 @@ checked file scratch report o r report′ scratch′ e g z = record {
   scratchIs = z;
 }
 
--- a refusal leaves the buffer as it was
-pub refuses : (n k : ℕ) (d e : List ℕ) → e ≡ d → Given (refused n k) (Refused n k) d e
-refuses n k d e h = record { answerIs = refl; bufferIs = h }
-
 -- 1
 pub short-scratch : (file scratch report report′ scratch′ : List ℕ) → length scratch < 16384 → report′ ≡ report → scratch′ ≡ replicate (length scratch) 0 → Checked file scratch report (Refused 1 0) report′ scratch′
-short-scratch file scratch report report′ scratch′ l h z = checked file scratch report (refused 1 0) (Refused 1 0) report′ scratch′ (outcome-1 file (length scratch) (length report) l) (refuses 1 0 report report′ h) z
+short-scratch file scratch report report′ scratch′ l h z = checked file scratch report (refused 1 0) (Refused 1 0) report′ scratch′ (outcome-1 file (length scratch) (length report) l) (record { answerIs = refl; bufferIs = h }) z

@@ -1,11 +1,10 @@
 -- The mission at the entry, from the contract of `check` alone; and any two outcomes that the contract permits are equal.
-use mathlib.Core.Path.{_≡_, refl, sym, ap, _∙_}
-use mathlib.Core.List.{List, _++_}
+use mathlib.Core.Path.{_≡_, sym, ap, _∙_}
+use mathlib.Core.List.{List}
 use Prim.Native.Nat.{ℕ}
-use lib.ListN.{length, drop}
+use lib.ListN.{length}
 use Rattle.scope.specs.declared.Answer.{Answer}
 use Rattle.scope.specs.declared.Answer.the-variants.{Report, Refused}
-use Rattle.scope.specs.Lists.{Text}
 use Rattle.scope.specs.Lines.{lines}
 use Rattle.scope.specs.Blocks.{Block, parsed, blockOf}
 use Rattle.scope.specs.Report.{findings, report}

@@ -1,10 +1,5 @@
--- What the proofs of the driver's functions use.
-pub mod Walking
-pub mod Saying
-pub mod Held
-pub mod Judging
+-- What the proofs of `check` and `print` use, the mission, and one outcome.
 pub mod Answering
-pub mod Outcomes
 pub mod Entry
 pub mod Printing
 pub mod Once

@@ -1,5 +1,5 @@
 -- What is printed for a file, from what the check leaves and how a refusal is written.
-use mathlib.Core.Path.{_≡_, refl, sym, ap, ap₂, subst, _∙_}
+use mathlib.Core.Path.{_≡_, sym, ap, ap₂, subst, _∙_}
 use mathlib.Core.List.{List, _++_}
 use Prim.Native.Nat.{ℕ, _+_, _≤_}
 use native.Mathlib.Nat.{zero-add}
@@ -17,7 +17,7 @@ use Rattle.scope.proofs.Refusals.{Kept, fits, refuses, kept, refused-keeps}
 use Rattle.writing.specs.Writing.{Wrote}
 use Rattle.block.specs.Check.{Checked}
 use Rattle.block.specs.Print.{textOf, Prints}
-use Rattle.block.proofs.Saying.{written}
+use Rattle.fitting.proofs.Saying.{written}
 
 -- the line of a refusal
 abbrev pub refusalLine : ℕ → ℕ → Text

@@ -1,5 +1,4 @@
--- What a check promises, and what its steps make of the block that the slices hold.
-pub mod Driver
+-- What a check promises, the mission's demands of it, and what is printed.
 pub mod Check
 pub mod Mission
 pub mod Print

@@ -1,10 +1,9 @@
 // The check of a file: the one entry, which asks nothing of its caller.
-use crate::driver::answer;
 use cells::clear;
+use driver::answer;
 use scope::Answer;
 ghost use Rattle.block.specs.Check.{Checked};
 
-pub mod driver;
 pub mod print;
 
 // The answer for a file, with the report in the report buffer; the scratch is zero afterwards.

@@ -4,49 +4,35 @@ use native.Mathlib.Nat.{le-trans}
 use Rattle.block.proofs.Printing.{checked-as, report-prints, report-fits, refusal-prints}
 use Rattle.block.proofs.print.print.Statement.{statement}
 use Rattle.block.proofs.print.print.Tie as tie
-use Rattle.block.proofs.print.print.Reads as reads
-use Rattle.block.proofs.print.print.Lts as lts
-use Rattle.block.proofs.check.Reads as check-reads
-use Rattle.wording.proofs.refusal.Reads as refusal-reads
 
--- src/print.rt:14:9
 check-requires : tie.Need-check-requires
 check-requires c κs = search needs
 
--- src/print.rt:16:26
 enum-known-r : tie.Need-enum-known-r
 enum-known-r c = search needs
 
--- src/print.rt:17:27
 enum-known-r-2 : tie.Need-enum-known-r-2
 enum-known-r-2 c = search needs
 
--- src/print.rt:17:45
 refusal-requires : tie.Need-refusal-requires
 refusal-requires c κs = search needs
 
--- src/print.rt:10:1
 same-length : tie.Need-same-length
 same-length c = search needs
 
--- src/print.rt:10:1
 same-length-2 : tie.Need-same-length-2
 same-length-2 c = search needs
 
--- src/print.rt:10:1
 returns : tie.Need-returns
 returns c =
     (report-prints (c .before .before .before .before .before .before .before .before .before .before .before .before .before .args .file .now) (c .before .before .before .before .before .before .before .before .before .before .before .before .before .args .scratch .now) (c .before .before .before .before .before .before .before .before .before .before .before .before .before .args .out .now) (c .before .before .before .before .before .before .before .check .last .1 .1 .0) (c .before .before .before .before .before .before .before .check .last .1 .0) (c .before .r .given .0 .0) (checked-as (c .before .r .given .1) (c .before .before .before .before .before .before .before .check .ensures)), λ l. report-fits (c .before .before .before .before .before .before .before .before .before .before .before .before .before .args .file .now) (c .before .before .before .before .before .before .before .before .before .before .before .before .before .args .scratch .now) (c .before .before .before .before .before .before .before .before .before .before .before .before .before .args .out .now) (c .before .before .before .before .before .before .before .check .last .1 .1 .0) (c .before .before .before .before .before .before .before .check .last .1 .0) (c .before .r .given .0 .0) (checked-as (c .before .r .given .1) (c .before .before .before .before .before .before .before .check .ensures)))
 
--- src/print.rt:10:1
 same-length-3 : tie.Need-same-length-3
 same-length-3 c = search needs
 
--- src/print.rt:10:1
 same-length-4 : tie.Need-same-length-4
 same-length-4 c = search needs
 
--- src/print.rt:10:1
 returns-2 : tie.Need-returns-2
 returns-2 c =
     (refusal-prints (c .before .before .before .before .before .before .before .before .before .before .before .before .before .before .before .before .before .args .file .now) (c .before .before .before .before .before .before .before .before .before .before .before .before .before .before .before .before .before .args .scratch .now) (c .before .before .before .before .before .before .before .before .before .before .before .before .before .before .before .before .before .args .out .now) (c .before .before .before .before .before .before .before .before .before .before .before .check .last .1 .1 .0) (c .before .before .before .before .before .before .before .before .before .before .before .check .last .1 .0) (c .before .before .before .before .before .r2 .given .0 .0) (c .before .before .before .before .before .r2 .given .0 .1 .0) (c .before .before .refusal .result) (c .before .before .refusal .last .1 .1 .0) (checked-as (c .before .before .before .before .before .r2 .given .1) (c .before .before .before .before .before .before .before .before .before .before .before .check .ensures)) (c .before .before .refusal .ensures .0), λ l. le-trans (c .before .before .refusal .ensures .1) l)

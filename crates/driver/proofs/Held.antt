@@ -1,13 +1,12 @@
 -- The slices hold the block that a file says, as the walks and the report ask, from what reading leaves.
-use mathlib.Core.Path.{_≡_, refl, sym, ap}
+use mathlib.Core.Path.{_≡_}
 use mathlib.Core.List.{List, [], _∷_}
-use Prim.Native.Nat.{ℕ, zero, suc, _+_, _-_, _≤_, _<_}
+use Prim.Native.Nat.{ℕ}
 use native.Mathlib.Omega.{arith}
-use lib.ListN.{length, getD, take, drop}
+use lib.ListN.{take}
 use Rattle.scope.specs.Lines.{lines}
-use Rattle.scope.specs.Types.{Ref, Table}
-use Rattle.scope.specs.Patterns.{Matrix, Typed, TypedRows}
-use Rattle.scope.specs.Blocks.{Block, nodesIn, parsed, blockOf}
+use Rattle.scope.specs.Patterns.{TypedRows}
+use Rattle.scope.specs.Blocks.{Block, parsed, blockOf}
 use Rattle.scope.specs.Report.{findings}
 use Rattle.meaning.proofs.Parsing.{Good, block-good}
 use Rattle.meaning.proofs.Fitting.{all-suit}
@@ -17,20 +16,10 @@ use Rattle.reading.specs.Files.{HoldsBlock}
 use Rattle.reading.proofs.Literals.{block-literal}
 use Rattle.source.proofs.Blocks.{block-sound}
 use Rattle.source.proofs.Tables.{not-cell}
-use Rattle.block.specs.Driver.{Slices, lent, Holds, Known}
-
--- a row of one pattern has a node, so there are no more rows than nodes
-some-node : {table : Table} {t : Ref} {r : List _} → Typed table (t ∷ []) r → 1 ≤ length r
-some-node (Typed.wilds h) = omega arith
-some-node (Typed.lits e h) = omega arith
-some-node (Typed.cons l h) = omega arith
-
-pub no-more-rows : {table : Table} {t : Ref} {m : Matrix} → TypedRows table (t ∷ []) m → length m ≤ nodesIn m
-no-more-rows TypedRows.noRows = omega arith
-no-more-rows (TypedRows.also h k) = omega (arith, some-node h, no-more-rows k)
+use Rattle.judging.specs.Blocks.{Slices, lent, Holds, Known}
 
 -- missing rows are patterns of the subject's type
-pub gaps-typed : (b : Block) → Good b → TypedRows (b .table) (b .subject ∷ []) (findings b .missing .result)
+gaps-typed : (b : Block) → Good b → TypedRows (b .table) (b .subject ∷ []) (findings b .missing .result)
 unfolding findings
 gaps-typed b g = missing-typed (b .subject ∷ []) (b .rows) (all-suit (g .typed) (g .admitted))
 

@@ -1,28 +1,22 @@
-// The driver: a file is read, both walks go over its block, and the report is written.
+// A block judged: both walks over its slices, then its report or refusal 10 or 11.
 use cells::clear;
-use lines::report as write_report;
+use fitting::say;
 use missing::missing;
 use outcomes::Seek;
-use reading::file::Parsed;
-use reading::file::read;
 use scope::Answer;
 use judge::Judged;
 use judge::judge;
 ghost use mathlib.Core.Path.{_≡_};
-ghost use Prim.Native.Nat.{ℕ, _≤_, _<_};
+ghost use Prim.Native.Nat.{ℕ, _≤_};
 ghost use mathlib.Core.List.{List};
 ghost use lib.ListN.{length, replicate};
-ghost use Rattle.scope.specs.Types.{Table};
 ghost use Rattle.scope.specs.Blocks.{Block, parsed};
-ghost use Rattle.scope.specs.Report.{Findings, report as reportText};
-ghost use Rattle.scope.specs.Answer.{fitted, judgedIn};
-ghost use Rattle.matrix.specs.Places.{Sizes};
-ghost use Rattle.matrix.specs.Places.{Starts};
+ghost use Rattle.scope.specs.Answer.{judgedIn};
+ghost use Rattle.matrix.specs.Places.{Sizes, Starts};
 ghost use Rattle.walks.specs.Bridge.{Holding};
-ghost use Rattle.text.specs.Rows.{slices};
-ghost use Rattle.lines.specs.Findings.{Says, Small};
-ghost use Rattle.block.specs.Driver.{lent, Holds, Known, Walked, Given};
-ghost use Rattle.block.specs.Check.{Checked};
+ghost use Rattle.fitting.specs.Given.{Given};
+ghost use Rattle.judging.specs.Blocks.{lent, Holds, Known};
+ghost use Rattle.judging.specs.Walks.{Walked};
 
 pub enum Walks {
     Done {
@@ -86,65 +80,8 @@ fn walk(
     }
 }
 
-// The report in its buffer, or refusal 11: it is measured first, over none of the buffer.
-fn say(
-    bytes: &[u8],
-    kinds: &[u8],
-    arities: &[u8],
-    starts: &[u16],
-    names: &[u16],
-    labels: &[u16],
-    verdicts: &[u8],
-    nodes: &[u16],
-    gaps: usize,
-    first: usize,
-    second: usize,
-    report: &mut [u8],
-) -> Answer
-    requires { ⌜ Small (length (now nodes)) (length (now verdicts)) gaps 0 ⌝ }
-    ensures { λ r. ⌜ ((table : Table) (f : Findings) → Says (slices (now (bytes .entry)) (now (kinds .entry)) (now (arities .entry)) (now (starts .entry)) (now (names .entry)) (now (labels .entry)) (now (nodes .entry))) (now (verdicts .entry)) gaps first second table f → Given (fitted (length (now (report .entry))) (reportText table f)) r (now (report .entry)) (now (report .exit))) ⌝ }
-{
-    let length = write_report(
-        bytes,
-        kinds,
-        arities,
-        starts,
-        names,
-        labels,
-        verdicts,
-        nodes,
-        gaps,
-        first,
-        second,
-        &mut report[..0],
-        0,
-    );
-    if report.len() < length {
-        return Answer::Refused {
-            number: 11,
-            line: 0,
-        };
-    }
-    write_report(
-        bytes,
-        kinds,
-        arities,
-        starts,
-        names,
-        labels,
-        verdicts,
-        nodes,
-        gaps,
-        first,
-        second,
-        report,
-        0,
-    );
-    Answer::Report { length }
-}
-
 // The block that the slices hold, judged: refusal 10, then the report or 11.
-fn judged(
+pub fn judged(
     bytes: &[u8],
     kinds: &[u8],
     counts: &[u8],
@@ -198,64 +135,6 @@ fn judged(
             gaps,
             first,
             second,
-            report,
-        ),
-    }
-}
-
-// The file read, then judged.
-pub fn answer(file: &[u8], scratch: &mut [u16], report: &mut [u8]) -> Answer
-    requires { ⌜ 16384 ≤ length (now scratch) ⌝ }
-    ensures { λ r. ⌜ Checked (now (file .entry)) (now (scratch .entry)) (now (report .entry)) r (now (report .exit)) (now (scratch .exit)) ⌝ }
-{
-    let mut bytes = [0u8; 24576];
-    let mut kinds = [0u8; 64];
-    let mut counts = [0u8; 64];
-    let mut arities = [0u8; 2048];
-    let mut starts = [0u16; 2048];
-    let mut names = [0u16; 2048];
-    let mut fields = [0u8; 5120];
-    let mut labels = [0u16; 5120];
-    let mut stack = [0u16; 1920];
-    let mut nodes = [0u16; 4160];
-    let mut left = [0u16; 4160];
-    let mut rows = [0u16; 64];
-    let p = read(
-        file,
-        &mut bytes,
-        &mut kinds,
-        &mut counts,
-        &mut arities,
-        &mut starts,
-        &mut names,
-        &mut fields,
-        &mut labels,
-        &mut stack,
-        &mut nodes,
-        &mut left,
-        &mut rows,
-    );
-    match p {
-        Parsed::Faulty { number, line } => {
-            clear(scratch);
-            Answer::Refused { number, line }
-        }
-        Parsed::Block {
-            subject: _,
-            clauses,
-            types: _,
-        } => judged(
-            &bytes,
-            &kinds,
-            &counts,
-            &arities,
-            &starts,
-            &names,
-            &labels,
-            &nodes,
-            &left,
-            &rows[..clauses],
-            scratch,
             report,
         ),
     }

@@ -1,4 +1,4 @@
--- `block::driver::walk` meets its contract: both walks together, from the contracts of each.
+-- `judging::walk` meets its contract: both walks together, from the contracts of each.
 use borrow.Author.Needs.{needs}
 use mathlib.Core.Path.{sym, ap, subst, _∙_}
 use Prim.Native.Nat.{ℕ, _≤_}
@@ -7,96 +7,71 @@ use native.Mathlib.Omega.{arith}
 use lib.ListN.{replicate, length-replicate}
 use Rattle.judge.specs.Driver.{Judges}
 use Rattle.missing.specs.Missing.{Finds}
-use Rattle.block.proofs.Walking.{first-over, second-over, both-done}
-use Rattle.block.proofs.driver.walk.Statement.{statement}
-use Rattle.block.proofs.driver.walk.Tie as tie
-use Rattle.block.proofs.driver.walk.Reads as reads
-use Rattle.block.proofs.driver.walk.Lts as lts
-use Rattle.cells.proofs.clear.Reads as clear-reads
-use Rattle.missing.proofs.missing.Reads as missing-reads
-use Rattle.judge.proofs.judge.Reads as judge-reads
+use Rattle.judging.proofs.Walking.{first-over, second-over, both-done}
+use Rattle.judging.proofs.walk.Statement.{statement}
+use Rattle.judging.proofs.walk.Tie as tie
 
--- src/driver.rt:55:9
 judge-requires : tie.Need-judge-requires
 judge-requires c κs =
     (c .before .before .before .before .before .before .before .before .before .before .before .pre .0, (c .before .before .before .before .before .before .before .before .before .before .before .pre .1 .0, (c .before .before .before .before .before .before .before .before .before .before .before .pre .1 .1 .0, c .before .before .before .before .before .before .before .before .before .before .before .pre .1 .1 .1, le-trans (c .before .before .before .before .before .before .before .before .before .before .before .pre .1 .1 .0) (c .before .before .before .before .before .before .before .before .before .before .before .pre .1 .1 .2))))
 
--- src/driver.rt:58:31
 enum-known-reached : tie.Need-enum-known-reached
 enum-known-reached c = search needs
 
--- src/driver.rt:59:15
 enum-told : tie.Need-enum-told
 enum-told c = search needs
 
--- src/driver.rt:59:9
 clear-requires : tie.Need-clear-requires
 clear-requires c κs = search needs
 
--- src/driver.rt:60:9
 same-length : tie.Need-same-length
 same-length c = search needs
 
--- src/driver.rt:60:9
 same-length-2 : tie.Need-same-length-2
 same-length-2 c = search needs
 
--- src/driver.rt:60:9
 returns : tie.Need-returns
 returns c =
     (λ kinds b h. first-over (c .before .before .before .before .before .before .before .before .before .before .before .before .before .before .before .before .before .before .before .before .before .before .args .bytes .now) b (c .before .before .before .before .before .before .before .before .before .before .before .before .before .before .before .before .before .before .before .before .before .before .args .verdicts .now) (c .before .before .before .before .before .before .before .before .before .before .judge .last .1 .1 .1 .1 .1 .1 .1 .0) _ (subst (Judges (b .table) (b .rows) (c .before .before .before .before .before .before .before .before .before .before .before .before .before .before .before .before .before .before .before .before .before .before .args .verdicts .now) (c .before .before .before .before .before .before .before .before .before .before .judge .last .1 .1 .1 .1 .1 .1 .1 .0)) (c .before .before .before .before .enum-told .given .1) (c .before .before .before .before .before .before .before .before .before .before .judge .ensures .1 .1 kinds (b .table) (b .subject) (b .rows) h)), c .before .before .clear .ensures ∙ ap (λ (n : ℕ). replicate n 0) (c .before .before .before .before .before .before .before .before .before .before .judge .kept .1 .1 .1 .1 .1 .1 .0))
 
--- src/driver.rt:65:61
 slice-aggregate-missing : tie.Need-slice-aggregate-missing
 slice-aggregate-missing c = search needs
 
--- src/driver.rt:65:72
 slice-aggregate-missing-2 : tie.Need-slice-aggregate-missing-2
 slice-aggregate-missing-2 c = search needs
 
--- src/driver.rt:64:9
 missing-requires : tie.Need-missing-requires
 missing-requires c κs =
     (c .before .before .before .before .before .before .before .before .before .before .before .before .before .before .before .before .before .before .before .before .before .before .before .pre .0, (c .before .before .before .before .before .before .before .before .before .before .before .before .before .before .before .before .before .before .before .before .before .before .before .pre .1 .0, (c .before .before .before .before .before .before .before .before .before .before .before .before .before .before .before .before .before .before .before .before .before .before .before .pre .1 .1 .0, subst (λ (n : ℕ). 16384 ≤ n) (sym (c .before .before .before .before .before .before .before .before .before .before .before .judge .kept .1 .1 .1 .1 .1 .1 .0)) (c .before .before .before .before .before .before .before .before .before .before .before .before .before .before .before .before .before .before .before .before .before .before .before .pre .1 .1 .1), omega (arith, length-replicate {A = ℕ} 16384 0), omega (arith, length-replicate {A = ℕ} 16384 0), c .before .before .before .before .before .before .before .before .before .before .before .before .before .before .before .before .before .before .before .before .before .before .before .pre .1 .1 .3)))
 
--- src/driver.rt:68:23
 enum-told-2 : tie.Need-enum-told-2
 enum-told-2 c = search needs
 
--- src/driver.rt:70:13
 enum-known-found : tie.Need-enum-known-found
 enum-known-found c = search needs
 
--- src/driver.rt:38:1
 same-length-3 : tie.Need-same-length-3
 same-length-3 c = search needs
 
--- src/driver.rt:38:1
 same-length-4 : tie.Need-same-length-4
 same-length-4 c = search needs
 
--- src/driver.rt:38:1
 same-length-5 : tie.Need-same-length-5
 same-length-5 c = search needs
 
--- src/driver.rt:38:1
 returns-2 : tie.Need-returns-2
 returns-2 c =
     (λ kinds b h. second-over (c .before .before .before .before .before .before .before .before .before .before .before .before .before .before .before .before .before .before .before .before .before .before .before .before .before .before .before .before .before .before .before .before .args .bytes .now) b (c .before .before .before .before .before .before .before .before .before .before .before .before .before .before .before .before .before .before .before .before .before .before .before .before .before .before .before .before .before .before .before .before .args .verdicts .now) (c .before .before .before .before .before .before .before .before .before .before .before .before .before .before .before .before .before .before .before .before .judge .last .1 .1 .1 .1 .1 .1 .1 .0) (c .before .before .before .before .before .before .before .before .missing .last .1 .1 .1 .1 .1 .1 .1 .1 .1 .0) (subst (Finds (c .before .before .before .before .before .before .before .before .before .before .before .before .before .before .before .before .before .before .before .before .before .before .before .before .before .before .before .before .before .before .before .before .args .bytes .now) (b .table) (b .rows) (c .before .before .before .before .before .before .before .before .missing .last .1 .1 .1 .1 .1 .1 .1 .1 .1 .0)) (c .enum-told2 .given .1) (c .before .before .before .before .before .before .before .before .missing .ensures .1 .1 .1 .1 .1 kinds (b .table) (b .subject) (b .rows) h)), c .before .before .before .before .before .before .before .before .missing .ensures .1 .1 .0 ∙ ap (λ (n : ℕ). replicate n 0) (c .before .before .before .before .before .before .before .before .before .before .before .before .before .before .before .before .before .before .before .before .judge .kept .1 .1 .1 .1 .1 .1 .0))
 
--- src/driver.rt:38:1
 same-length-6 : tie.Need-same-length-6
 same-length-6 c = search needs
 
--- src/driver.rt:38:1
 same-length-7 : tie.Need-same-length-7
 same-length-7 c = search needs
 
--- src/driver.rt:38:1
 same-length-8 : tie.Need-same-length-8
 same-length-8 c = search needs
 
--- src/driver.rt:38:1
 returns-3 : tie.Need-returns-3
 returns-3 c =
     (λ kinds b h. both-done (c .before .before .before .before .before .before .before .before .before .before .before .before .before .before .before .before .before .before .before .before .before .before .before .before .before .before .before .before .before .before .before .before .before .args .bytes .now) b (c .before .before .before .before .before .before .before .before .before .before .before .before .before .before .before .before .before .before .before .before .before .before .before .before .before .before .before .before .before .before .before .before .before .args .verdicts .now) (c .before .before .before .before .before .before .before .before .before .before .before .before .before .before .before .before .before .before .before .before .before .judge .last .1 .1 .1 .1 .1 .1 .1 .0) (c .before .before .before .before .before .before .before .before .before .missing .last .1 .1 .1 .1 .1 .1 .1 .1 .1 .0) (c .before .before .before .before .before .before .before .before .before .before .before .before .before .before .before .reached .given .0 .0) (c .before .found .given .0 .0) (c .before .found .given .0 .1 .0) (c .before .found .given .0 .1 .1 .0) (le-trans (subst (λ (n : ℕ). n ≤ 64) (h .rows .many) (c .before .before .before .before .before .before .before .before .before .before .before .before .before .before .before .before .before .before .before .before .before .before .before .before .before .before .before .before .before .before .before .before .before .pre .1 .1 .0)) (c .before .before .before .before .before .before .before .before .before .before .before .before .before .before .before .before .before .before .before .before .before .before .before .before .before .before .before .before .before .before .before .before .before .pre .1 .1 .2)) (subst (Judges (b .table) (b .rows) (c .before .before .before .before .before .before .before .before .before .before .before .before .before .before .before .before .before .before .before .before .before .before .before .before .before .before .before .before .before .before .before .before .before .args .verdicts .now) (c .before .before .before .before .before .before .before .before .before .before .before .before .before .before .before .before .before .before .before .before .before .judge .last .1 .1 .1 .1 .1 .1 .1 .0)) (c .before .before .before .before .before .before .before .before .before .before .before .before .before .before .before .reached .given .1) (c .before .before .before .before .before .before .before .before .before .before .before .before .before .before .before .before .before .before .before .before .before .judge .ensures .1 .1 kinds (b .table) (b .subject) (b .rows) h)) (subst (Finds (c .before .before .before .before .before .before .before .before .before .before .before .before .before .before .before .before .before .before .before .before .before .before .before .before .before .before .before .before .before .before .before .before .before .args .bytes .now) (b .table) (b .rows) (c .before .before .before .before .before .before .before .before .before .missing .last .1 .1 .1 .1 .1 .1 .1 .1 .1 .0)) (c .before .found .given .1) (c .before .before .before .before .before .before .before .before .before .missing .ensures .1 .1 .1 .1 .1 kinds (b .table) (b .subject) (b .rows) h)), c .before .before .before .before .before .before .before .before .before .missing .ensures .1 .1 .0 ∙ ap (λ (n : ℕ). replicate n 0) (c .before .before .before .before .before .before .before .before .before .before .before .before .before .before .before .before .before .before .before .before .before .judge .kept .1 .1 .1 .1 .1 .1 .0))

@@ -1,84 +1,63 @@
--- `block::driver::judged` meets its contract: refusal 10 where the walks are too much, else what is said of the findings.
+-- `judging::judged` meets its contract: refusal 10 where the walks are too much, else what is said of the findings.
 use borrow.Author.Needs.{needs}
-use mathlib.Core.Path.{refl, sym, ap, subst, _∙_}
-use Prim.Native.Nat.{ℕ}
+use mathlib.Core.Path.{refl, sym, subst}
 use native.Mathlib.Omega.{arith}
 use lib.ListN.{length}
 use lib.Seq.{length-take-le}
-use Rattle.block.specs.declared.driver.Walks.{Walks}
-use Rattle.block.specs.Driver.{Walked}
+use Rattle.judging.specs.Walks.{Walked}
 use Rattle.scope.specs.Report.{findings}
-use Rattle.block.proofs.Judging.{sizes, starts, says, reported, part-of-verdicts, part-of-out, small, too-much-work}
-use Rattle.block.proofs.driver.judged.Statement.{statement}
-use Rattle.block.proofs.driver.judged.Tie as tie
-use Rattle.block.proofs.driver.judged.Reads as reads
-use Rattle.block.proofs.driver.judged.Lts as lts
-use Rattle.block.proofs.driver.say.Reads as say-reads
-use Rattle.block.proofs.driver.walk.Reads as walk-reads
+use Rattle.judging.proofs.Judging.{sizes, starts, says, reported, part-of-verdicts, part-of-out, small, too-much-work}
+use Rattle.judging.proofs.judged.Statement.{statement}
+use Rattle.judging.proofs.judged.Tie as tie
 
--- src/driver.rt:158:9
 slice-aggregate-walk : tie.Need-slice-aggregate-walk
 slice-aggregate-walk c = search needs
 
--- src/driver.rt:159:9
 slice-aggregate-walk-2 : tie.Need-slice-aggregate-walk-2
 slice-aggregate-walk-2 c = search needs
 
--- src/driver.rt:150:9
 walk-requires : tie.Need-walk-requires
 walk-requires c κs =
     (sizes _ (c .before .before .before .before .before .before .before .before .before .before .before .before .before .before .before .pre .0), (starts _ (c .before .before .before .before .before .before .before .before .before .before .before .before .before .before .before .pre .0), (c .before .before .before .before .before .before .before .before .before .before .before .before .before .before .before .pre .0 .few, c .before .before .before .before .before .before .before .before .before .before .before .before .before .before .before .pre .1, omega arith, omega arith)))
 
--- src/driver.rt:162:24
 enum-told : tie.Need-enum-told
 enum-told c = search needs
 
--- src/driver.rt:167:13
 enum-known-w : tie.Need-enum-known-w
 enum-known-w c = search needs
 
--- src/driver.rt:178:13
 array-share-prefix-verdicts : tie.Need-array-share-prefix-verdicts
 array-share-prefix-verdicts c = search needs
 
--- src/driver.rt:178:13
 slice-aggregate-say : tie.Need-slice-aggregate-say
 slice-aggregate-say c =
     (part-of-verdicts _ (c .before .before .before .before .before .before .before .before .before .before .before .before .before .before .before .before .before .before .before .before .before .before .before .before .pre .0) (c .before .before .before .before .before .before .before .before .walk .last .1 .1 .1 .1 .1 .1 .1 .0) (c .before .before .before .before .before .before .before .before .walk .kept .1 .1 .1 .1 .1 .1 .1 .0))
 
--- src/driver.rt:179:13
 array-share-prefix-out : tie.Need-array-share-prefix-out
 array-share-prefix-out c =
     (part-of-out _ (c .before .before .before .before .before .before .before .before .before .before .before .before .before .before .before .before .before .before .before .before .before .before .before .before .pre .0) (c .before .before .before .before .before .before .before .before .walk .last .1 .1 .1 .1 .1 .1 .1 .0) (c .before .before .before .before .before .before .before .before .walk .last .1 .1 .1 .1 .1 .1 .1 .1 .0) (c .before .before .w .given .0 .0) (c .before .before .w .given .0 .1 .0) (c .before .before .w .given .0 .1 .1 .0) (c .before .before .w .given .0 .1 .1 .1 .0) (c .before .before .before .before .before .before .before .before .walk .kept .1 .1 .1 .1 .1 .1 .1 .1 .0) (subst (Walked (c .before .before .before .before .before .before .before .before .before .before .before .before .before .before .before .before .before .before .before .before .before .before .before .before .args .bytes .now) (c .before .before .before .before .before .before .before .before .before .before .before .before .before .before .before .before .before .before .before .before .before .before .before .before .pre .0 .block) (c .before .before .before .before .before .before .before .before .walk .last .1 .1 .1 .1 .1 .1 .1 .0) (c .before .before .before .before .before .before .before .before .walk .last .1 .1 .1 .1 .1 .1 .1 .1 .0)) (c .before .before .w .given .1) (c .before .before .before .before .before .before .before .before .walk .ensures .0 (c .before .before .before .before .before .before .before .before .before .before .before .before .before .before .before .before .before .before .before .before .before .before .before .before .args .kinds .now) (c .before .before .before .before .before .before .before .before .before .before .before .before .before .before .before .before .before .before .before .before .before .before .before .before .pre .0 .block) (c .before .before .before .before .before .before .before .before .before .before .before .before .before .before .before .before .before .before .before .before .before .before .before .before .pre .0 .holds .holding))))
 
--- src/driver.rt:179:13
 slice-aggregate-say-2 : tie.Need-slice-aggregate-say-2
 slice-aggregate-say-2 c =
     (sym (length-take-le (c .before .before .before .w .given .0 .1 .0) (c .before .before .before .before .before .before .before .before .before .walk .last .1 .1 .1 .1 .1 .1 .1 .1 .0) (part-of-out _ (c .before .before .before .before .before .before .before .before .before .before .before .before .before .before .before .before .before .before .before .before .before .before .before .before .before .pre .0) (c .before .before .before .before .before .before .before .before .before .walk .last .1 .1 .1 .1 .1 .1 .1 .0) (c .before .before .before .before .before .before .before .before .before .walk .last .1 .1 .1 .1 .1 .1 .1 .1 .0) (c .before .before .before .w .given .0 .0) (c .before .before .before .w .given .0 .1 .0) (c .before .before .before .w .given .0 .1 .1 .0) (c .before .before .before .w .given .0 .1 .1 .1 .0) (c .before .before .before .before .before .before .before .before .before .walk .kept .1 .1 .1 .1 .1 .1 .1 .1 .0) (subst (Walked (c .before .before .before .before .before .before .before .before .before .before .before .before .before .before .before .before .before .before .before .before .before .before .before .before .before .args .bytes .now) (c .before .before .before .before .before .before .before .before .before .before .before .before .before .before .before .before .before .before .before .before .before .before .before .before .before .pre .0 .block) (c .before .before .before .before .before .before .before .before .before .walk .last .1 .1 .1 .1 .1 .1 .1 .0) (c .before .before .before .before .before .before .before .before .before .walk .last .1 .1 .1 .1 .1 .1 .1 .1 .0)) (c .before .before .before .w .given .1) (c .before .before .before .before .before .before .before .before .before .walk .ensures .0 (c .before .before .before .before .before .before .before .before .before .before .before .before .before .before .before .before .before .before .before .before .before .before .before .before .before .args .kinds .now) (c .before .before .before .before .before .before .before .before .before .before .before .before .before .before .before .before .before .before .before .before .before .before .before .before .before .pre .0 .block) (c .before .before .before .before .before .before .before .before .before .before .before .before .before .before .before .before .before .before .before .before .before .before .before .before .before .pre .0 .holds .holding))))))
 
--- src/driver.rt:171:14
 say-requires : tie.Need-say-requires
 say-requires c κs =
     (small _ (c .before .before .before .before .before .before .before .before .before .before .before .before .before .before .before .before .before .before .before .before .before .before .before .before .before .before .pre .0) (c .before .before .before .before .before .before .before .before .before .before .walk .last .1 .1 .1 .1 .1 .1 .1 .0) (c .before .before .before .before .before .before .before .before .before .before .walk .last .1 .1 .1 .1 .1 .1 .1 .1 .0) (c .before .before .before .before .w .given .0 .0) (c .before .before .before .before .w .given .0 .1 .0) (c .before .before .before .before .w .given .0 .1 .1 .0) (c .before .before .before .before .w .given .0 .1 .1 .1 .0) (subst (Walked (c .before .before .before .before .before .before .before .before .before .before .before .before .before .before .before .before .before .before .before .before .before .before .before .before .before .before .args .bytes .now) (c .before .before .before .before .before .before .before .before .before .before .before .before .before .before .before .before .before .before .before .before .before .before .before .before .before .before .pre .0 .block) (c .before .before .before .before .before .before .before .before .before .before .walk .last .1 .1 .1 .1 .1 .1 .1 .0) (c .before .before .before .before .before .before .before .before .before .before .walk .last .1 .1 .1 .1 .1 .1 .1 .1 .0)) (c .before .before .before .before .w .given .1) (c .before .before .before .before .before .before .before .before .before .before .walk .ensures .0 (c .before .before .before .before .before .before .before .before .before .before .before .before .before .before .before .before .before .before .before .before .before .before .before .before .before .before .args .kinds .now) (c .before .before .before .before .before .before .before .before .before .before .before .before .before .before .before .before .before .before .before .before .before .before .before .before .before .before .pre .0 .block) (c .before .before .before .before .before .before .before .before .before .before .before .before .before .before .before .before .before .before .before .before .before .before .before .before .before .before .pre .0 .holds .holding))))
 
--- src/driver.rt:129:1
 same-length : tie.Need-same-length
 same-length c = search needs
 
--- src/driver.rt:129:1
 returns : tie.Need-returns
 returns c =
     (λ b h. too-much-work (c .before .before .before .before .before .before .before .before .before .before .before .before .before .before .before .before .before .before .before .before .before .before .args .bytes .now) b (c .before .before .before .before .before .before .walk .last .1 .1 .1 .1 .1 .1 .1 .0) (c .before .before .before .before .before .before .walk .last .1 .1 .1 .1 .1 .1 .1 .1 .0) (length (c .before .before .before .before .before .before .before .before .before .before .before .before .before .before .before .before .before .before .before .before .before .before .args .report .now)) (c .before .before .before .before .before .before .before .before .before .before .before .before .before .before .before .before .before .before .before .before .before .before .args .report .now) _ (subst (Walked (c .before .before .before .before .before .before .before .before .before .before .before .before .before .before .before .before .before .before .before .before .before .before .args .bytes .now) b (c .before .before .before .before .before .before .walk .last .1 .1 .1 .1 .1 .1 .1 .0) (c .before .before .before .before .before .before .walk .last .1 .1 .1 .1 .1 .1 .1 .1 .0)) (c .enum-told .given .1) (c .before .before .before .before .before .before .walk .ensures .0 (c .before .before .before .before .before .before .before .before .before .before .before .before .before .before .before .before .before .before .before .before .before .before .args .kinds .now) b (h .holding))) refl, c .before .before .before .before .before .before .walk .ensures .1)
 
--- src/driver.rt:129:1
 same-length-2 : tie.Need-same-length-2
 same-length-2 c = search needs
 
--- src/driver.rt:129:1
 same-length-3 : tie.Need-same-length-3
 same-length-3 c = search needs
 
--- src/driver.rt:129:1
 returns-2 : tie.Need-returns-2
 returns-2 c =
     (λ b h. let found = (subst (Walked (c .before .before .before .before .before .before .before .before .before .before .before .before .before .before .before .before .before .before .before .before .before .before .before .before .before .before .before .before .before .args .bytes .now) b (c .before .before .before .before .before .before .before .before .before .before .before .before .before .walk .last .1 .1 .1 .1 .1 .1 .1 .0) (c .before .before .before .before .before .before .before .before .before .before .before .before .before .walk .last .1 .1 .1 .1 .1 .1 .1 .1 .0)) (c .before .before .before .before .before .before .before .w .given .1) (c .before .before .before .before .before .before .before .before .before .before .before .before .before .walk .ensures .0 (c .before .before .before .before .before .before .before .before .before .before .before .before .before .before .before .before .before .before .before .before .before .before .before .before .before .before .before .before .before .args .kinds .now) b (h .holding))) in reported _ b h (c .before .before .before .before .before .before .before .before .before .before .before .before .before .walk .last .1 .1 .1 .1 .1 .1 .1 .0) (c .before .before .before .before .before .before .before .before .before .before .before .before .before .walk .last .1 .1 .1 .1 .1 .1 .1 .1 .0) (c .before .before .before .before .before .before .before .w .given .0 .0) (c .before .before .before .before .before .before .before .w .given .0 .1 .0) (c .before .before .before .before .before .before .before .w .given .0 .1 .1 .0) (c .before .before .before .before .before .before .before .w .given .0 .1 .1 .1 .0) (length (c .before .before .before .before .before .before .before .before .before .before .before .before .before .before .before .before .before .before .before .before .before .before .before .before .before .before .before .before .before .args .report .now)) (c .before .before .say .result) (c .before .before .before .before .before .before .before .before .before .before .before .before .before .before .before .before .before .before .before .before .before .before .before .before .before .before .before .before .before .args .report .now) (c .before .before .say .last .1 .1 .1 .1 .1 .1 .1 .1 .1 .1 .1 .0) found (c .before .before .say .ensures (b .table) (findings b) (says _ b h (c .before .before .before .before .before .before .before .before .before .before .before .before .before .walk .last .1 .1 .1 .1 .1 .1 .1 .0) (c .before .before .before .before .before .before .before .before .before .before .before .before .before .walk .last .1 .1 .1 .1 .1 .1 .1 .1 .0) (c .before .before .before .before .before .before .before .w .given .0 .0) (c .before .before .before .before .before .before .before .w .given .0 .1 .0) (c .before .before .before .before .before .before .before .w .given .0 .1 .1 .0) (c .before .before .before .before .before .before .before .w .given .0 .1 .1 .1 .0) found)), c .before .before .before .before .before .before .before .before .before .before .before .before .before .walk .ensures .1)

@@ -1,8 +1,8 @@
 -- What both walks together find in a block, from what each of them finds and from the tests of refusal 10.
 use mathlib.Core.Path.{_≡_, refl, sym, ap, _∙_}
 use mathlib.Core.Bool.{Bool, true, false, not, _&&_, _||_}
-use mathlib.Core.List.{List, [], _∷_, _++_, map}
-use Prim.Native.Nat.{ℕ, zero, suc, _+_, _≤_}
+use mathlib.Core.List.{List, [], _∷_, map}
+use Prim.Native.Nat.{ℕ, _+_, _≤_}
 use native.Mathlib.Omega.{arith}
 use lib.ListN.{length, take, drop, length-map}
 use lib.Seq.{sets, sets-eq, take-at}
@@ -24,8 +24,8 @@ use Rattle.verdicts.specs.Verdicts.{said}
 use Rattle.walks.proofs.Limits.{within-not}
 use Rattle.judge.proofs.Driver.{judged-done, judged-over}
 use Rattle.missing.proofs.Driver.{found-not, found-done, found-over}
-use Rattle.block.specs.declared.driver.Walks.the-variants.{Done, Over}
-use Rattle.block.specs.Driver.{Walked, over, done}
+use Rattle.judging.specs.declared.Walks.the-variants.{Done, Over}
+use Rattle.judging.specs.Walks.{Walked, over, done}
 
 -- the tests of refusal 10, walk by walk
 sorted : (a b c d e : Bool) → (a || b || c || d || e) ≡ ((a || c) || (b || d || e))

@@ -1,28 +1,39 @@
 -- What is answered for the block that the slices hold, from what the walks find and what the writer leaves.
-use mathlib.Core.Path.{_≡_, refl, sym, ap, subst, _∙_}
-use mathlib.Core.Bool.{true, false}
-use mathlib.Core.List.{List, [], append-nil}
-use Prim.Native.Nat.{ℕ, _≤_, _<_, _^_}
+use mathlib.Core.Path.{_≡_, refl, sym, subst, _∙_}
+use mathlib.Core.Bool.{false}
+use mathlib.Core.List.{List, [], _∷_, append-nil}
+use Prim.Native.Nat.{ℕ, _≤_}
 use native.Mathlib.Omega.{arith}
 use lib.ListN.{length, take, length-take}
 use lib.Seq.{length-take-le}
 use Rattle.scope.specs.declared.Answer.{Answer}
 use Rattle.scope.specs.declared.Answer.the-variants.{Refused}
 use Rattle.scope.specs.Lists.{flatten}
-use Rattle.scope.specs.Blocks.{Block, parsed}
+use Rattle.scope.specs.Types.{Ref, Table}
+use Rattle.scope.specs.Patterns.{Matrix, Typed, TypedRows}
+use Rattle.scope.specs.Blocks.{Block, nodesIn, parsed}
 use Rattle.scope.specs.Report.{findings, tooMuch, report}
-use Rattle.scope.specs.Answer.{Outcome, refused, fitted, judgedIn}
-use Rattle.scope.proofs.Tests.{clash}
+use Rattle.scope.specs.Answer.{Outcome, fitted, judgedIn}
 use Rattle.scope.proofs.Answers.{not-too-much, judged-10, judged-parsed}
-use Rattle.matrix.specs.Places.{Sizes}
-use Rattle.matrix.specs.Places.{Starts}
+use Rattle.matrix.specs.Places.{Sizes, Starts}
 use Rattle.walks.proofs.BridgeTable.{starts-hold}
 use Rattle.text.specs.Rows.{slices}
 use Rattle.verdicts.specs.Verdicts.{said}
 use Rattle.lines.specs.Findings.{Says, Small}
-use Rattle.block.specs.declared.driver.Walks.the-variants.{Done, Over}
-use Rattle.block.specs.Driver.{Slices, Holds, Known, Walked, over, done, Given}
-use Rattle.block.proofs.Held.{no-more-rows}
+use Rattle.judging.specs.declared.Walks.the-variants.{Done, Over}
+use Rattle.fitting.specs.Given.{Given}
+use Rattle.judging.specs.Blocks.{Slices, Holds, Known}
+use Rattle.judging.specs.Walks.{Walked, over, done}
+
+-- a row of one pattern has a node, so there are no more rows than nodes
+some-node : {table : Table} {t : Ref} {r : List _} → Typed table (t ∷ []) r → 1 ≤ length r
+some-node (Typed.wilds h) = omega arith
+some-node (Typed.lits e h) = omega arith
+some-node (Typed.cons l h) = omega arith
+
+no-more-rows : {table : Table} {t : Ref} {m : Matrix} → TypedRows table (t ∷ []) m → length m ≤ nodesIn m
+no-more-rows TypedRows.noRows = omega arith
+no-more-rows (TypedRows.also h k) = omega (arith, some-node h, no-more-rows k)
 
 pub sizes : (s : Slices) → Known s → Sizes (s .nodes) (s .arities)
 sizes s k = record { short = k .shortNodes; low = k .lowArities }

@@ -1,0 +1,3 @@
+-- What reading leaves, and what is answered for it.
+pub mod Held
+pub mod Outcomes

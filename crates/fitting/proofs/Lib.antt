@@ -1,0 +1,3 @@
+-- What the proof of `say` uses, and that it has one outcome.
+pub mod Saying
+pub mod Once

@@ -1,0 +1,2 @@
+-- What an outcome is in the code.
+pub mod Given
