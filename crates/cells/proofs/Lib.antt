@@ -1,2 +1,3 @@
--- Laws of writing that other crates cite too.
+-- Laws of writing and of parts of lists that other crates cite too.
 pub mod Laws
+pub mod Parts

@@ -11,7 +11,7 @@ use borrow.Author.Tests.{ltb-true, ltb-false, leb-true, leb-false}
 use Rattle.scope.proofs.Tests.{clash}
 use Rattle.scope.specs.Frames as scope
 use Rattle.scope.specs.Frames.{fault, found, Reader, andThen, _>>=_, give, byte, passing, times, choosing, judging}
-use Rattle.letters.proofs.Laws.{left}
+use Rattle.cells.proofs.Parts.{left}
 use Rattle.fields.specs.declared.Read.{Read}
 use Rattle.fields.specs.declared.Read.the-variants.{At, Fault}
 use Rattle.fields.specs.Places.{placed, readAt}

@@ -13,7 +13,8 @@ use borrow.Author.Tests.{eq-eqb, ne-eqb, eqb-true, leb-true, le-leb, lt-leb, lt-
 use Rattle.scope.proofs.Tests.{both}
 use Rattle.scope.specs.Lists.{all, among}
 use Rattle.scope.specs.Lines.{ended, cut, intoFirst, lines, isHex, hex, unhex, isLine}
-use Rattle.letters.proofs.Laws.{left, and-left, and-right, among-true}
+use Rattle.cells.proofs.Parts.{left}
+use Rattle.letters.proofs.Laws.{and-left, and-right, among-true}
 use Rattle.hex.specs.Digits.{digits, TakenLine, RefusedLine}
 
 -- a digit is one of 0 to 9 or one of a to f

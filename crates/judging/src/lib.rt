@@ -1,11 +1,11 @@
 // A block judged: both walks over its slices, then its report or refusal 10 or 11.
 use cells::clear;
 use fitting::say;
+use judge::Judged;
+use judge::judge;
 use missing::missing;
 use outcomes::Seek;
 use scope::Answer;
-use judge::Judged;
-use judge::judge;
 ghost use mathlib.Core.Path.{_≡_};
 ghost use Prim.Native.Nat.{ℕ, _≤_};
 ghost use mathlib.Core.List.{List};

@@ -3,19 +3,14 @@ use mathlib.Core.Path.{_≡_, refl, sym, ap, _∙_}
 use mathlib.Core.List.{[], _∷_}
 use mathlib.Core.Bool.{Bool, true, false, _&&_, _||_}
 use Prim.Native.Nat.{ℕ, _+_, _-_, _≤_, _<_}
-use native.Mathlib.Numerals.{add-one}
 use native.Mathlib.Omega.{arith}
-use lib.ListN.{length, getD, take, drop, length-drop}
-use lib.Seq.{drop-cons, take-all}
+use lib.ListN.{length, getD, take, drop}
 use lib.Dec.{eqb, leb, eqb·suc-suc}
 use borrow.Author.Tests.{eq-eqb, ne-eqb, leb-true}
 use Rattle.scope.proofs.Tests.{both}
+use Rattle.cells.proofs.Parts.{left, part}
 use Rattle.scope.specs.Lists.{Text, all, among}
 use Rattle.scope.specs.Frames.{isDigit, isPositive, isDecimal}
-
--- what is left at a place is the element there and what is left after it
-pub left : (t : Text) (i : ℕ) → i < length t → drop i t ≡ getD t i 0 ∷ drop (i + 1) t
-left t i h = drop-cons t i 0 h ∙ ap (λ (k : ℕ). getD t i 0 ∷ drop k t) (sym (add-one i))
 
 pub or-left : (a b : Bool) → a ≡ true → true ≡ a || b
 or-left a b h = rw h
@@ -44,10 +39,6 @@ all-stops p t i h e = rw (left t i h, e)
 -- this one does
 pub all-goes : (p : ℕ → Bool) (t : Text) (i : ℕ) → i < length t → p (getD t i 0) ≡ true → all p (drop i t) ≡ all p (drop (i + 1) t)
 all-goes p t i h e = ap (all p) (left t i h) ∙ ap (λ (x : Bool). x && all p (drop (i + 1) t)) e
-
--- the part of a text from a place on is what is left there
-pub part : (t : Text) (i : ℕ) → take (length t - i) (drop i t) ≡ drop i t
-part t i = take-all (length t - i) (drop i t) (omega (arith, length-drop i t))
 
 -- the first of a text and the others
 pub parted : (t : Text) → 0 < length t → t ≡ getD t 0 0 ∷ take (length t - 1) (drop 1 t)

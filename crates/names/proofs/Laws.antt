@@ -9,7 +9,7 @@ use lib.Dec.{eqb}
 use borrow.Author.Tests.{eq-eqb, ne-eqb}
 use Rattle.scope.specs.Lists.{Text, same}
 use Rattle.scope.specs.Text.{startsWith, contains}
-use Rattle.letters.proofs.Laws.{left}
+use Rattle.cells.proofs.Parts.{left}
 
 and-false : (z : Bool) → z && false ≡ false
 and-false true = refl

@@ -14,7 +14,7 @@ use Rattle.shape.specs.Wholes.{whole}
 use Rattle.fields.proofs.Readers.{Keeps, give-keeps, fault-keeps, byte-keeps, bind-keeps, give-stays, place-back, found-at, fault-at, Reached}
 use Rattle.declarations.proofs.Shapes.{type-keeps, constructor-keeps}
 use Rattle.clause.proofs.Written.{patterns-keep}
-use Rattle.letters.proofs.Laws.{left}
+use Rattle.cells.proofs.Parts.{left}
 
 -- What comes after the kind
 module _ (bytes : List ℕ) (at : ℕ) (c : Read) where

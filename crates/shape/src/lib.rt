@@ -6,10 +6,10 @@ ghost use Rattle.scope.specs.Frames.{frame};
 ghost use Rattle.fields.specs.Places.{readAt};
 ghost use Rattle.shape.specs.Wholes.{whole};
 use clause::patterns;
-use fields::Read;
-use fields::byte;
 use declarations::constructor_frame;
 use declarations::type_frame;
+use fields::Read;
+use fields::byte;
 
 // What comes after the kind of a frame.
 fn held(bytes: &[u8], at: usize, kind: u8) -> Read

@@ -9,6 +9,9 @@ use cells::at8;
 use cells::at16;
 use cells::wide8;
 use cells::wide16;
+use looks::closes;
+use looks::look;
+use looks::put_name;
 use marks::comma;
 use marks::dots;
 use marks::has_labels;
@@ -17,9 +20,6 @@ use marks::put_close;
 use marks::put_mark;
 use marks::put_open;
 use naming::Look;
-use looks::closes;
-use looks::look;
-use looks::put_name;
 use writing::byte;
 
 // Where the text ends, and the place after the patterns.

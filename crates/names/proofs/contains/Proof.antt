@@ -3,7 +3,7 @@ use Prim.Native.Nat.{_≤_, _-_}
 use mathlib.Core.Path.{_≡_, refl, sym, ap, _∙_}
 use lib.ListN.{length, drop}
 use Rattle.scope.specs.Text.{startsWith, contains}
-use Rattle.letters.proofs.Laws.{part}
+use Rattle.cells.proofs.Parts.{part}
 use Rattle.names.proofs.Laws.{contains-stops, contains-goes, contains-ends}
 use borrow.Author.Needs.{needs}
 use native.Mathlib.Omega.{arith}
