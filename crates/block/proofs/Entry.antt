@@ -3,14 +3,14 @@ use mathlib.Core.Path.{_≡_, sym, ap, _∙_}
 use mathlib.Core.List.{List}
 use Prim.Native.Nat.{ℕ}
 use lib.ListN.{length}
-use Rattle.scope.specs.declared.Answer.{Answer}
-use Rattle.scope.specs.declared.Answer.the-variants.{Report, Refused}
+use Rattle.answers.specs.declared.Answer.{Answer}
+use Rattle.answers.specs.declared.Answer.the-variants.{Report, Refused}
 use Rattle.scope.specs.Lines.{lines}
 use Rattle.scope.specs.Blocks.{Block, parsed, blockOf}
 use Rattle.scope.specs.Report.{findings, report}
-use Rattle.scope.specs.Answer.{answer, reportText, bufferAfter}
-use Rattle.scope.proofs.Answers.{scratch-zero, scratch-length}
-use Rattle.scope.proofs.Refusals.{refused-line, refused-keeps, report-fills}
+use Rattle.answers.specs.Answer.{answer, reportText, bufferAfter}
+use Rattle.answers.proofs.Answers.{scratch-zero, scratch-length}
+use Rattle.answers.proofs.Refusals.{refused-line, refused-keeps, report-fills}
 use Rattle.meaning.proofs.Promised.{promises, reported}
 use Rattle.source.proofs.Agreement.{source-agrees}
 use Rattle.block.specs.Check.{Checked}

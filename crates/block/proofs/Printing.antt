@@ -6,14 +6,14 @@ use native.Mathlib.Nat.{zero-add}
 use native.Mathlib.Omega.{arith}
 use lib.ListN.{length, drop}
 use lib.Seq.{sets}
-use Rattle.scope.specs.declared.Answer.{Answer}
-use Rattle.scope.specs.declared.Answer.the-variants.{Report, Refused}
+use Rattle.answers.specs.declared.Answer.{Answer}
+use Rattle.answers.specs.declared.Answer.the-variants.{Report, Refused}
 use Rattle.scope.specs.Lists.{Text, bytes}
 use Rattle.scope.specs.Lines.{lines}
 use Rattle.scope.specs.Text.{decimal}
-use Rattle.scope.specs.Answer.{Outcome, outcome, answer, reportText, bufferAfter, printedFor}
+use Rattle.answers.specs.Answer.{Outcome, outcome, answer, reportText, bufferAfter, printedFor}
 use Rattle.scope.proofs.Tests.{clash}
-use Rattle.scope.proofs.Refusals.{Kept, fits, refuses, kept, refused-keeps}
+use Rattle.answers.proofs.Refusals.{Kept, fits, refuses, kept, refused-keeps}
 use Rattle.writing.specs.Writing.{Wrote}
 use Rattle.block.specs.Check.{Checked}
 use Rattle.block.specs.Print.{textOf, Prints}

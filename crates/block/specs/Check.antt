@@ -3,8 +3,8 @@ use mathlib.Core.Path.{_≡_}
 use mathlib.Core.List.{List}
 use Prim.Native.Nat.{ℕ}
 use lib.ListN.{length}
-use Rattle.scope.specs.declared.Answer.{Answer}
-use Rattle.scope.specs.Answer.{answer, bufferAfter, scratchAfter}
+use Rattle.answers.specs.declared.Answer.{Answer}
+use Rattle.answers.specs.Answer.{answer, bufferAfter, scratchAfter}
 
 -- a file was checked with a scratch and a report buffer: the answer r, the report buffer and the scratch afterwards
 pub record Checked (file scratch report : List ℕ) (r : Answer) (report′ scratch′ : List ℕ) : Type 0 where

@@ -3,14 +3,14 @@ use mathlib.Core.Path.{_≡_}
 use mathlib.Core.List.{List, _++_}
 use Prim.Native.Nat.{ℕ, _<_}
 use lib.ListN.{length, getD, drop}
-use Rattle.scope.specs.declared.Answer.{Answer}
-use Rattle.scope.specs.declared.Answer.the-variants.{Report, Refused}
+use Rattle.answers.specs.declared.Answer.{Answer}
+use Rattle.answers.specs.declared.Answer.the-variants.{Report, Refused}
 use Rattle.scope.specs.Lists.{Text}
 use Rattle.scope.specs.Lines.{lines}
 use Rattle.scope.specs.Report.{findings, report}
 use Rattle.meaning.specs.Promises.{Promises}
 use Rattle.source.specs.Agreement.{SourceAgrees}
-use Rattle.scope.proofs.Refusals.{Refusal}
+use Rattle.answers.proofs.Refusals.{Refusal}
 
 -- a report of n bytes was written over a buffer
 pub record Reports (file buffer : List ℕ) (n : ℕ) (buffer′ : List ℕ) : Type 0 where

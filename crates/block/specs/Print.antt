@@ -5,7 +5,7 @@ use Prim.Native.Nat.{ℕ}
 use lib.ListN.{length}
 use lib.Seq.{sets}
 use Rattle.scope.specs.Lists.{Text}
-use Rattle.scope.specs.Answer.{outcome, scratchAfter, printedFor}
+use Rattle.answers.specs.Answer.{outcome, scratchAfter, printedFor}
 
 -- what is printed for a file: the report, or `refused N line K`
 abbrev pub textOf : List ℕ → ℕ → ℕ → Text

@@ -1,6 +1,6 @@
 // What the program prints for a file.
 use crate::check;
-use scope::Answer;
+use answers::Answer;
 use wording::refusal;
 ghost use Prim.Native.Nat.{_≤_};
 ghost use lib.ListN.{length};

@@ -7,13 +7,13 @@ use native.Mathlib.Omega.{arith}
 use lib.ListN.{length}
 use lib.Dec.{ltb}
 use borrow.Author.Tests.{ltb-true, ltb-false}
-use Rattle.scope.specs.declared.Answer.{Answer}
-use Rattle.scope.specs.declared.Answer.the-variants.{Refused}
+use Rattle.answers.specs.declared.Answer.{Answer}
+use Rattle.answers.specs.declared.Answer.the-variants.{Refused}
 use Rattle.scope.specs.Lines.{lines}
 use Rattle.scope.specs.Blocks.{Block, parsed, faulty, blockOf}
-use Rattle.scope.specs.Answer.{Outcome, judgedIn, outcome}
+use Rattle.answers.specs.Answer.{Outcome, judgedIn, outcome}
 use Rattle.scope.proofs.Tests.{clash}
-use Rattle.scope.proofs.Answers.{outcome-2, outcome-lines, judged-faulty}
+use Rattle.answers.proofs.Answers.{outcome-2, outcome-lines, judged-faulty}
 use Rattle.reading.specs.declared.file.Parsed.{Parsed}
 use Rattle.reading.specs.declared.file.Parsed.the-variants as parsedAs
 use Rattle.entering.specs.Said as read

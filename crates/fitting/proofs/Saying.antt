@@ -6,11 +6,11 @@ use native.Mathlib.Nat.{zero-add}
 use native.Mathlib.Omega.{arith}
 use lib.ListN.{length, take, drop, length-take, length-drop, take-append-drop}
 use lib.Seq.{sets, sets-eq, length-sets}
-use Rattle.scope.specs.declared.Answer.the-variants.{Report, Refused}
+use Rattle.answers.specs.declared.Answer.the-variants.{Report, Refused}
 use Rattle.scope.specs.Lists.{Text}
-use Rattle.scope.specs.Answer.{Outcome, fitted}
+use Rattle.answers.specs.Answer.{Outcome, fitted}
 use Rattle.writing.specs.Writing.{Wrote}
-use Rattle.scope.proofs.Answers.{fitted-in, fitted-over}
+use Rattle.answers.proofs.Answers.{fitted-in, fitted-over}
 use Rattle.fitting.specs.Given.{Given}
 
 -- a text in front of a buffer

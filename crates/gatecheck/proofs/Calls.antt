@@ -3,9 +3,9 @@ use mathlib.Core.Path.{_≡_, sym, ap, _∙_}
 use mathlib.Core.List.{List}
 use Prim.Native.Nat.{ℕ}
 use lib.ListN.{length}
-use Rattle.scope.specs.declared.Answer.{Answer}
-use Rattle.scope.specs.declared.Answer.the-variants.{Report, Refused}
-use Rattle.scope.specs.Answer.{said, answer}
+use Rattle.answers.specs.declared.Answer.{Answer}
+use Rattle.answers.specs.declared.Answer.the-variants.{Report, Refused}
+use Rattle.answers.specs.Answer.{said, answer}
 use Rattle.block.specs.Check.{Checked}
 use Rattle.gatecheck.specs.Called.{Called}
 

@@ -1,6 +1,6 @@
 // `check` for programs in C and Rust: the static library.
+use answers::Answer;
 use block::check;
-use scope::Answer;
 ghost use Rattle.gatecheck.specs.Called.{Called};
 
 // The answer's number, 0 for a report; its line and the report's length through the last two.

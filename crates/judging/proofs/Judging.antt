@@ -6,15 +6,16 @@ use Prim.Native.Nat.{ℕ, _≤_}
 use native.Mathlib.Omega.{arith}
 use lib.ListN.{length, take, length-take}
 use lib.Seq.{length-take-le}
-use Rattle.scope.specs.declared.Answer.{Answer}
-use Rattle.scope.specs.declared.Answer.the-variants.{Refused}
+use Rattle.answers.specs.declared.Answer.{Answer}
+use Rattle.answers.specs.declared.Answer.the-variants.{Refused}
 use Rattle.scope.specs.Lists.{flatten}
 use Rattle.scope.specs.Types.{Ref, Table}
 use Rattle.scope.specs.Patterns.{Matrix, Typed, TypedRows}
 use Rattle.scope.specs.Blocks.{Block, nodesIn, parsed}
 use Rattle.scope.specs.Report.{findings, tooMuch, report}
-use Rattle.scope.specs.Answer.{Outcome, fitted, judgedIn}
-use Rattle.scope.proofs.Answers.{not-too-much, judged-10, judged-parsed}
+use Rattle.answers.specs.Answer.{Outcome, fitted, judgedIn}
+use Rattle.scope.proofs.Limits.{not-too-much}
+use Rattle.answers.proofs.Answers.{judged-10, judged-parsed}
 use Rattle.matrix.specs.Places.{Sizes, Starts}
 use Rattle.walks.proofs.BridgeTable.{starts-hold}
 use Rattle.text.specs.Rows.{slices}

@@ -3,9 +3,9 @@ use mathlib.Core.Path.{_≡_}
 use mathlib.Core.List.{List}
 use lib.ListN.{length}
 use Prim.Native.Nat.{ℕ}
-use Rattle.scope.specs.declared.Answer.{Answer}
+use Rattle.answers.specs.declared.Answer.{Answer}
 use Rattle.scope.specs.Blocks.{Block, parsed}
-use Rattle.scope.specs.Answer.{judgedIn}
+use Rattle.answers.specs.Answer.{judgedIn}
 use Rattle.fitting.specs.Given.{Given}
 use Rattle.fitting.proofs.Once.{one-given}
 use Rattle.judging.specs.Blocks.{Slices, Holds, Known}

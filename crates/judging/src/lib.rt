@@ -1,17 +1,17 @@
 // A block judged: both walks over its slices, then its report or refusal 10 or 11.
+use answers::Answer;
 use cells::clear;
 use fitting::say;
 use judge::Judged;
 use judge::judge;
 use missing::missing;
 use outcomes::Seek;
-use scope::Answer;
 ghost use mathlib.Core.Path.{_≡_};
 ghost use Prim.Native.Nat.{ℕ, _≤_};
 ghost use mathlib.Core.List.{List};
 ghost use lib.ListN.{length, replicate};
 ghost use Rattle.scope.specs.Blocks.{Block, parsed};
-ghost use Rattle.scope.specs.Answer.{judgedIn};
+ghost use Rattle.answers.specs.Answer.{judgedIn};
 ghost use Rattle.matrix.specs.Places.{Sizes, Starts};
 ghost use Rattle.walks.specs.Bridge.{Holding};
 ghost use Rattle.fitting.specs.Given.{Given};

@@ -13,4 +13,3 @@ pub mod Promised
 pub mod Shape
 pub mod Renamed
 pub mod Trailing
-pub mod Larger

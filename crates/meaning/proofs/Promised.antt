@@ -8,7 +8,7 @@ use native.Mathlib.Nat.{le-of-suc-le-suc, not-suc-le-zero}
 use native.Mathlib.Omega.{arith}
 use lib.ListN.{length, getD, take}
 use lib.Dec.{leb, ltb}
-use Rattle.scope.specs.declared.Answer.the-variants.{Report}
+use Rattle.answers.specs.declared.Answer.the-variants.{Report}
 use Rattle.scope.specs.Limits.{scratchCells, maxFile, reportBytes}
 use Rattle.scope.specs.Lists.{Text, all, bytes}
 use Rattle.scope.specs.Lines.{lines}
@@ -17,12 +17,12 @@ use Rattle.scope.specs.Patterns.{Matrix, Typed, TypedRows}
 use Rattle.scope.specs.Walks.{isUseful}
 use Rattle.scope.specs.Blocks.{Block, Parsed, parsed, faulty, blockOf}
 use Rattle.scope.specs.Report.{judged, findings, tooMuch, yeses, noes, report}
-use Rattle.scope.specs.Answer.{Outcome, fitted, refused, walked, judgedIn, outcome, answer, reportText}
+use Rattle.answers.specs.Answer.{Outcome, fitted, refused, walked, judgedIn, outcome, answer, reportText}
 use Rattle.meaning.specs.Values.{admits}
 use Rattle.meaning.specs.Meaning.{Witness, Sound}
 use Rattle.meaning.specs.Promises.{verdicts, Promises, Promised, SaysFindings}
 use Rattle.scope.proofs.Tests.{clash, both, and-true}
-use Rattle.scope.proofs.Compute.{compute}
+use Rattle.answers.proofs.Compute.{answering}
 use Rattle.meaning.proofs.Fitting.{AllSuit, all-suit}
 use Rattle.meaning.proofs.Usefulness.{useful-right}
 use Rattle.meaning.proofs.Gaps.{each-at, missing-typed, missing-plain, missing-witness, missing-apart, missing-none}
@@ -160,7 +160,7 @@ example = bytes "010301\n0106\n02035265640000\n0204426c75650000\n0300\n04050000\
 
 -- it gets a report of 130 bytes
 pub example-report : answer example scratchCells reportBytes ≡ Report 130
-unfolding compute answer
+unfolding answering answer
 example-report = refl
 
 -- so the promises hold of it

@@ -6,7 +6,7 @@ use mathlib.Core.Option.{Option, none, some}
 use Prim.Native.Nat.{ℕ, suc, _+_}
 use lib.ListN.{length, List·getD-map}
 use lib.Dec.{leb}
-use Rattle.scope.specs.declared.Answer.the-variants.{Report}
+use Rattle.answers.specs.declared.Answer.the-variants.{Report}
 use Rattle.scope.specs.Lists.{bytes}
 use Rattle.scope.specs.Limits.{maxNodes}
 use Rattle.scope.specs.Lines.{Line, lines, isLine, bytesOf}
@@ -16,7 +16,7 @@ use Rattle.scope.specs.Walks.{Walk, collectMissingPatterns}
 use Rattle.scope.specs.Frames.{Read, found, Frame, isKind, frame}
 use Rattle.scope.specs.Blocks.{Block, Phase, types, constructors, clauses, closed, State, start, Step, ok, refuse, _>>=_, need, wholly, suited, nodesIn, stands, hasRoom, isFresh, isSound, withRow, enter, framed, line, Parsed, parsed, faulty, finish, goOn, parse, blockOf}
 use Rattle.scope.specs.Report.{judged, Findings, findings}
-use Rattle.scope.specs.Answer.{answer}
+use Rattle.answers.specs.Answer.{answer}
 use Rattle.meaning.specs.Renamed.{SameFrame, sameType, sameCtor, sameSubject, sameClause, sameEnd, Says, SameLine, sameLine, SameLines, noLines, alsoLine, Renamed, SameVerdicts, SameReports}
 use Rattle.scope.proofs.Tests.{clash}
 use Rattle.scope.proofs.Compute.{compute}

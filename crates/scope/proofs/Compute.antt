@@ -1,4 +1,4 @@
--- `unfolding compute` opens every definition that a file's answer goes through, so that the answer computes.
+-- `unfolding compute` opens every definition that a file's report goes through, so that the report computes.
 use Rattle.scope.specs.Lists.{same, twice}
 use Rattle.scope.specs.Lines.{lines, isHex, hex, unhex, isLine}
 use Rattle.scope.specs.Types.{refsGood, rounds, allFinite}
@@ -8,8 +8,7 @@ use Rattle.scope.specs.Blocks.{stands, hasRoom, isFresh, isSound, enter,
 use Rattle.scope.specs.Walks.{column, isUsefulStep, collectMissingStep, isUsefulIn, collectMissingIn, cost, isUseful, collectMissingPatterns}
 use Rattle.scope.specs.Text.{decimal, contains, look, prettyStep, prettyIn, prettyAt}
 use Rattle.scope.specs.Report.{judged, findings, tooMuch, report}
-use Rattle.scope.specs.Answer.{fitted, walked, judgedIn, outcome, printed}
 
 unfoldable pub compute : Unit {0}
-unfolding same twice lines isHex hex unhex isLine refsGood rounds allFinite simplified simplify isSmall isBig bigName smallName isDecimal typeFrame constructorFrame pattern patternsIn patterns frame stands hasRoom isFresh isSound enter framed line parse blockOf column isUsefulStep collectMissingStep isUsefulIn collectMissingIn cost isUseful collectMissingPatterns decimal contains look prettyStep prettyIn prettyAt judged findings tooMuch report fitted walked judgedIn outcome printed
+unfolding same twice lines isHex hex unhex isLine refsGood rounds allFinite simplified simplify isSmall isBig bigName smallName isDecimal typeFrame constructorFrame pattern patternsIn patterns frame stands hasRoom isFresh isSound enter framed line parse blockOf column isUsefulStep collectMissingStep isUsefulIn collectMissingIn cost isUseful collectMissingPatterns decimal contains look prettyStep prettyIn prettyAt judged findings tooMuch report
 compute = tt

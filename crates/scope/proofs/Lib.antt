@@ -1,8 +1,8 @@
--- Tables of files computed from the definitions, and what an answer, a limit and a refusal come to.
+-- A table of files computed from the definitions, and what a limit comes to.
 pub mod Tests
+pub mod Limits
 pub mod Compute
 pub mod Tables
-pub mod Worked
-pub mod Further
-pub mod Answers
-pub mod Refusals
+pub mod Shown
+pub mod Telling
+pub mod Held

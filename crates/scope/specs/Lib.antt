@@ -1,4 +1,4 @@
--- Document 01 as definitions, in its own order. This folder, and the one of `meaning`, is all that a reader has to believe.
+-- Document 01 as definitions, in its own order. This folder, and those of `answers` and `meaning`, are all that a reader has to believe.
 pub mod Limits
 pub mod Lists
 pub mod Lines
@@ -9,4 +9,3 @@ pub mod Blocks
 pub mod Walks
 pub mod Text
 pub mod Report
-pub mod Answer

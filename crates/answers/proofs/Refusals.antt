@@ -8,18 +8,18 @@ use native.Mathlib.Omega.{arith}
 use lib.Dec.{leb, ltb}
 use lib.ListN.{length, drop, length-append, length-drop}
 use borrow.Author.Tests.{leb-true}
-use Rattle.scope.specs.declared.Answer.{Answer}
-use Rattle.scope.specs.declared.Answer.the-variants.{Report, Refused}
+use Rattle.answers.specs.declared.Answer.{Answer}
+use Rattle.answers.specs.declared.Answer.the-variants.{Report, Refused}
 use Rattle.scope.specs.Limits.{maxNodes}
 use Rattle.scope.specs.Lists.{Text, bytes}
 use Rattle.scope.specs.Lines.{Line, isLine, bytesOf, lines}
 use Rattle.scope.specs.Patterns.{Row, simplify}
 use Rattle.scope.specs.Frames.{Read, fault, found, Frame, typeOf, constructorOf, subjectOf, clauseOf, end, isKind, frame}
 use Rattle.scope.specs.Text.{decimal}
 use Rattle.scope.specs.Blocks.{Block, Phase, types, constructors, clauses, closed, State, start, Step, ok, refuse, _>>=_, need, wholly, suited, nodesIn, stands, hasRoom, isFresh, isSound, enter, framed, line, Parsed, parsed, faulty, finish, goOn, parse, blockOf}
 use Rattle.scope.specs.Report.{findings, tooMuch, report}
-use Rattle.scope.specs.Answer.{said, Outcome, refused, fitted, walked, judgedIn, outcome, answer, reportText, bufferAfter, printedFor, printed}
+use Rattle.answers.specs.Answer.{said, Outcome, refused, fitted, walked, judgedIn, outcome, answer, reportText, bufferAfter, printedFor, printed}
 use Rattle.scope.proofs.Tests.{clash}
 
 -- the refusals that a line gives
 pub record OfLine (n : ℕ) : Type 0 where

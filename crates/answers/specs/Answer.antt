@@ -4,14 +4,14 @@ use mathlib.Core.Bool.{cond}
 use Prim.Native.Nat.{ℕ}
 use lib.ListN.{length, drop, replicate}
 use lib.Dec.{leb, ltb}
-use Rattle.scope.specs.declared.Answer.{Answer}
-use Rattle.scope.specs.declared.Answer.the-variants.{Report, Refused}
+use Rattle.answers.specs.declared.Answer.{Answer}
+use Rattle.answers.specs.declared.Answer.the-variants.{Report, Refused}
 use Rattle.scope.specs.Limits.{scratchCells, maxFile, reportBytes}
 use Rattle.scope.specs.Lists.{Text, bytes}
 use Rattle.scope.specs.Lines.{lines}
 use Rattle.scope.specs.Text.{decimal}
 use Rattle.scope.specs.Blocks.{Block, Parsed, parsed, faulty, blockOf}
 use Rattle.scope.specs.Report.{Findings, findings, tooMuch, report}
 
 -- An answer is a number and a line from 1 (0 where no line is at fault). Number 0 is a report and its length
 pub record Said : Type 0 where

@@ -2,8 +2,9 @@
 use mathlib.Core.List.{List, [], _∷_}
 use mathlib.Core.Path.{refl}
 use Prim.Native.String.{_++_}
-use Rattle.scope.proofs.Compute.{compute}
 use Rattle.scope.proofs.Tables.{repeated, Example, AllRight, by-test}
+use Rattle.answers.specs.Answer.{printed}
+use Rattle.answers.proofs.Compute.{answering}
 
 -- limits of a line, of types, constructors and clauses; refusals 9, 10 and 11, 8 before 9; a column with as many literals as a file can have
 abbrev pub larger : List Example
@@ -34,6 +35,6 @@ larger =
     record { file = "0100\n0300\n04030130\n04030437393139\n0403053135383338\n0403053233373537\n0403053331363736\n0403053339353935\n0403053437353134\n0403053535343333\n0403053633333532\n0403053731323731\n0403053739313930\n0403053837313039\n0403053935303238\n040306313032393437\n040306313130383636\n040306313138373835\n040306313236373034\n040306313334363233\n040306313432353432\n040306313530343631\n040306313538333830\n040306313636323939\n040306313734323138\n040306313832313337\n040306313930303536\n040306313937393735\n040306323035383934\n040306323133383133\n040306323231373332\n040306323239363531\n040306323337353730\n040306323435343839\n040306323533343038\n040306323631333237\n040306323639323436\n040306323737313635\n040306323835303834\n040306323933303033\n040306333030393232\n040306333038383431\n040306333136373630\n040306333234363739\n040306333332353938\n040306333430353137\n040306333438343336\n040306333536333535\n040306333634323734\n040306333732313933\n040306333830313132\n040306333838303331\n040306333935393530\n040306343033383639\n040306343131373838\n040306343139373037\n040306343237363236\n040306343335353435\n040306343433343634\n040306343531333833\n040306343539333032\n040306343637323231\n040306343735313430\n040306343833303539\n040306343930393738\n040306343938383937\n05\n"; text = "clauses 64 reached 64 never 0\nclause 1 reached\nclause 2 reached\nclause 3 reached\nclause 4 reached\nclause 5 reached\nclause 6 reached\nclause 7 reached\nclause 8 reached\nclause 9 reached\nclause 10 reached\nclause 11 reached\nclause 12 reached\nclause 13 reached\nclause 14 reached\nclause 15 reached\nclause 16 reached\nclause 17 reached\nclause 18 reached\nclause 19 reached\nclause 20 reached\nclause 21 reached\nclause 22 reached\nclause 23 reached\nclause 24 reached\nclause 25 reached\nclause 26 reached\nclause 27 reached\nclause 28 reached\nclause 29 reached\nclause 30 reached\nclause 31 reached\nclause 32 reached\nclause 33 reached\nclause 34 reached\nclause 35 reached\nclause 36 reached\nclause 37 reached\nclause 38 reached\nclause 39 reached\nclause 40 reached\nclause 41 reached\nclause 42 reached\nclause 43 reached\nclause 44 reached\nclause 45 reached\nclause 46 reached\nclause 47 reached\nclause 48 reached\nclause 49 reached\nclause 50 reached\nclause 51 reached\nclause 52 reached\nclause 53 reached\nclause 54 reached\nclause 55 reached\nclause 56 reached\nclause 57 reached\nclause 58 reached\nclause 59 reached\nclause 60 reached\nclause 61 reached\nclause 62 reached\nclause 63 reached\nclause 64 reached\ngaps 1\nmissing _\npaste _\ncalls 127 2\n" } ∷
     []
 
-pub larger-right : AllRight larger
-unfolding compute
-larger-right = by-test larger refl
+pub larger-right : AllRight printed larger
+unfolding answering
+larger-right = by-test printed larger refl

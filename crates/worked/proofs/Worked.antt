@@ -1,8 +1,9 @@
 -- P1 to P10 of document 01, as one statement over one table, by computing. T is a data type with A and B.
 use mathlib.Core.List.{List, [], _∷_}
 use mathlib.Core.Path.{refl}
-use Rattle.scope.proofs.Compute.{compute}
 use Rattle.scope.proofs.Tables.{Example, AllRight, by-test}
+use Rattle.answers.specs.Answer.{printed}
+use Rattle.answers.proofs.Compute.{answering}
 
 -- document 01's small blocks that are marked P; P1 for a subject of each kind of type
 abbrev pub worked : List Example
@@ -41,6 +42,6 @@ worked =
     record { file = "010301\n0106\n02035265640000\n0204426c75650000\n0300\n04050000\n040501010600000000\n04050000\n05\n"; text = "clauses 3 reached 2 never 1\nclause 1 reached\nclause 2 reached\nclause 3 never\ngaps 1\nmissing [Blue, ..]\npaste [Blue, ..]\ncalls 5 4\n" } ∷
     []
 
-pub P1-P10 : AllRight worked
-unfolding compute
-P1-P10 = by-test worked refl
+pub P1-P10 : AllRight printed worked
+unfolding answering
+P1-P10 = by-test printed worked refl

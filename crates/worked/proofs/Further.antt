@@ -1,26 +1,19 @@
 -- A second table: the smallest files that see what P1 to P10 do not, by computing.
 use mathlib.Core.List.{List, [], _∷_}
-use mathlib.Core.Path.{_≡_, refl}
-use Prim.Native.Nat.{ℕ}
-use Prim.Native.String.{String, _++_}
-use Rattle.scope.specs.Lists.{bytes}
-use Rattle.scope.specs.Lines.{lines}
-use Rattle.scope.specs.Blocks.{Parsed, parsed, faulty, blockOf}
-use Rattle.scope.specs.Report.{Findings, findings}
-use Rattle.scope.proofs.Compute.{compute}
+use mathlib.Core.Path.{refl}
+use Prim.Native.String.{_++_}
 use Rattle.scope.proofs.Tables.{repeated, Example, AllRight, by-test}
+use Rattle.scope.proofs.Telling.{telling}
+use Rattle.answers.specs.Answer.{printed}
+use Rattle.answers.proofs.Compute.{answering}
 
 -- refusals 3 to 8 and 10, the order of refusals within a line, limits, walks, both texts
 abbrev pub further : List Example
 further =
-    -- an empty file has no end, at line 1
-    record { file = ""; text = "refused 5 line 1\n" } ∷
     -- a byte just above 9 is no digit
     record { file = "0100\n030:\n05\n"; text = "refused 3 line 2\n" } ∷
     -- a byte just above f is no digit
     record { file = "0100\n030g\n05\n"; text = "refused 3 line 2\n" } ∷
-    -- hexadecimal is lower-case
-    record { file = "0100\n0300\n05\n0A\n"; text = "refused 3 line 4\n" } ∷
     -- an odd line
     record { file = "010302\n0100\n0106\n0201440000\n0301\n04030131\n0400\n04010162\n04030137\n04030130\n0403022d31\n0\n05\n"; text = "refused 3 line 12\n" } ∷
     -- an empty line
@@ -29,8 +22,6 @@ further =
     record { file = "0100\n0300\n05\n05"; text = "refused 3 line 4\n" } ∷
     -- a carriage return is no digit
     record { file = "0100\n0300\n05\r\n"; text = "refused 3 line 3\n" } ∷
-    -- 1,282 digits do not stand
-    record { file = "0100\n01050000\n0301\n04" ++ repeated 640 "07" ++ "\n05\n"; text = "refused 3 line 4\n" } ∷
     -- a clause before the subject
     record { file = "0100\n0400\n0300\n05\n"; text = "refused 5 line 2\n" } ∷
     -- a second subject
@@ -55,8 +46,6 @@ further =
     record { file = "010b\n"; text = "refused 4 line 1\n" } ∷
     -- a frame that is short
     record { file = "01\n"; text = "refused 4 line 1\n" } ∷
-    -- a frame with a byte over
-    record { file = "0100\n0300\n0500\n"; text = "refused 4 line 3\n" } ∷
     -- a pattern too many
     record { file = "0100\n0300\n040000\n05\n"; text = "refused 4 line 3\n" } ∷
     -- a tuple of 1
@@ -67,8 +56,6 @@ further =
     record { file = "0100\n01041000000000000000000000000000000000\n0301\n04081000000000000000000000000000000000\n05\n"; text = "clauses 1 reached 1 never 0\nclause 1 reached\ngaps 0\ncalls 1 18\n" } ∷
     -- a tuple of 17
     record { file = "0100\n0104110000000000000000000000000000000000\n0301\n0408110000000000000000000000000000000000\n05\n"; text = "refused 4 line 2\n" } ∷
-    -- arity 16; spread with all arguments
-    record { file = "0100\n0106\n020141001000000000000000000000000000000000\n0301\n040600100100000000000000000000000000000000\n05\n"; text = "clauses 1 reached 1 never 0\nclause 1 reached\ngaps 0\ncalls 1 18\n" } ∷
     -- arity 17
     record { file = "0100\n0106\n02014100110000000000000000000000000000000000\n0301\n0406001100" ++ repeated 17 "030131" ++ "\n05\n"; text = "refused 4 line 3\n" } ∷
     -- labels with arity 0
@@ -99,8 +86,6 @@ further =
     record { file = "0100\n0300\n0403023130\n05\n"; text = "clauses 1 reached 1 never 0\nclause 1 reached\ngaps 1\nmissing _\npaste _\ncalls 1 2\n" } ∷
     -- 00 is not decimal
     record { file = "0100\n0300\n0403023030\n05\n"; text = "refused 4 line 3\n" } ∷
-    -- -0 is not decimal, which comes before its type
-    record { file = "0101\n0300\n0403022d30\n05\n"; text = "refused 4 line 3\n" } ∷
     -- 7- is not decimal
     record { file = "0100\n0300\n040302372d\n05\n"; text = "refused 4 line 3\n" } ∷
     -- 64 digits
@@ -109,8 +94,6 @@ further =
     record { file = "0100\n0300\n040341" ++ repeated 65 "31" ++ "\n05\n"; text = "refused 4 line 3\n" } ∷
     -- 65 types, before short
     record { file = repeated 64 "0100\n" ++ "01\n"; text = "refused 6 line 65\n" } ∷
-    -- out of place before over the limit
-    record { file = repeated 64 "0100\n" ++ "0300\n0100\n"; text = "refused 5 line 66\n" } ∷
     -- a constructor name twice
     record { file = "0106\n0201410000\n0201410000\n0300\n05\n"; text = "refused 7 line 3\n" } ∷
     -- a name that begins with another is another name
@@ -137,8 +120,6 @@ further =
     record { file = "010301\n03\n"; text = "refused 4 line 2\n" } ∷
     -- a reference may point forward
     record { file = "010301\n0100\n0300\n05\n"; text = "clauses 0 reached 0 never 0\ngaps 1\nmissing _\npaste _\ncalls 0 1\n" } ∷
-    -- a data type without constructors has no value, reached or not
-    record { file = "0100\n0106\n0300\n05\n"; text = "refused 7 line 3\n" } ∷
     -- a data type that needs itself has no value
     record { file = "0106\n020141000100\n0300\n05\n"; text = "refused 7 line 3\n" } ∷
     -- a pair that holds itself has none
@@ -173,32 +154,18 @@ further =
     record { file = "0100\n01050000\n0301\n04070400\n05\n"; text = "refused 4 line 4\n" } ∷
     -- over 16,384 cells, first kind
     record { file = "0106\n020141001000000000000000000000000000000000\n0201420000\n0300\n040600040106000001000600000106000101060001010600010106000101060001010600010106000001\n040600040106000001000600000106000101060001010600010106000101060001010600010106000001\n05\n"; text = "refused 10 line 0\n" } ∷
-    -- a pair of A, B or C: where some are unseen the first column varies fastest
-    record { file = "0106\n0201410000\n0201420000\n0201430000\n01050000\n0301\n04070600000000\n04070006000000\n05\n"; text = "clauses 2 reached 2 never 0\nclause 1 reached\nclause 2 reached\ngaps 4\nmissing (B, B)\npaste (B, B)\nmissing (C, B)\npaste (C, B)\nmissing (B, C)\npaste (B, C)\nmissing (C, C)\npaste (C, C)\ncalls 4 4\n" } ∷
-    -- byte strings of one length are told apart by their bytes
-    record { file = "0101\n0300\n04040100\n04040101\n05\n"; text = "clauses 2 reached 2 never 0\nclause 1 reached\nclause 2 reached\ngaps 1\nmissing _\npaste _\ncalls 3 2\n" } ∷
-    -- byte strings of other lengths; the same one again
-    record { file = "0101\n0300\n040400\n04040100\n0404020000\n04040100\n05\n"; text = "clauses 4 reached 3 never 1\nclause 1 reached\nclause 2 reached\nclause 3 reached\nclause 4 never\ngaps 1\nmissing _\npaste _\ncalls 7 2\n" } ∷
-    -- ten literals make no column complete
-    record { file = "0100\n0300\n04030130\n04030131\n04030132\n04030133\n04030134\n04030135\n04030136\n04030137\n04030138\n04030139\n05\n"; text = "clauses 10 reached 10 never 0\nclause 1 reached\nclause 2 reached\nclause 3 reached\nclause 4 reached\nclause 5 reached\nclause 6 reached\nclause 7 reached\nclause 8 reached\nclause 9 reached\nclause 10 reached\ngaps 1\nmissing _\npaste _\ncalls 19 2\n" } ∷
     -- a list of no elements with a tail is its tail
     record { file = "0100\n010300\n0301\n0405000100\n05\n"; text = "clauses 1 reached 1 never 0\nclause 1 reached\ngaps 0\ncalls 1 2\n" } ∷
     -- [] is dropped as the tail of one element
     record { file = "0106\n0201410000\n0201420000\n010300\n010301\n0301\n04050000\n0405010006000000\n04050201000000\n05\n"; text = "clauses 3 reached 3 never 0\nclause 1 reached\nclause 2 reached\nclause 3 reached\ngaps 1\nmissing [B]\npaste [B]\ncalls 6 5\n" } ∷
     -- [] is kept as any other tail
     record { file = "010301\n0106\n020251390000\n0201430102010161000177\n0100\n0300\n040501010101780502010600000101017802017a00\n04050201060000000601020000050101010f7a61397a62396130393939625f61610002017900\n04050301060000010601020000050000010161010163\n040502010600000106010200010162050000050000\n04050101060102000600000100050101060102000101630001017a\n04050001050201060102000601020000000101620201790601000100\n0405010006000001\n0402017a05000105010000\n04050000\n05\n"; text = "clauses 9 reached 9 never 0\nclause 1 reached\nclause 2 reached\nclause 3 reached\nclause 4 reached\nclause 5 reached\nclause 6 reached\nclause 7 reached\nclause 8 reached\nclause 9 reached\ngaps 3\nmissing [Q9, Q9, []]\npaste [Q9, Q9]\nmissing [C { a: Q9, w }, Q9, []]\npaste [C { a: Q9, w }, Q9]\nmissing [C { a: C { a, w }, w }, Q9, []]\npaste [C { a: C { a, w }, w }, Q9]\ncalls 51 42\n" } ∷
-    -- [] as an element
-    record { file = "0106\n0201410000\n0201420000\n010300\n010301\n0302\n04050000\n04050101050101000000\n05\n"; text = "clauses 2 reached 2 never 0\nclause 1 reached\nclause 2 reached\ngaps 1\nmissing [[], ..]\npaste [[], ..]\ncalls 3 4\n" } ∷
-    -- [] as the last element: the paste text leaves out only the "[]" that closes the list
-    record { file = "0100\n010300\n010301\n0302\n04050000\n0405010000\n0405030100000000\n04050200050101000000\n04050200000501010000\n05\n"; text = "clauses 5 reached 5 never 0\nclause 1 reached\nclause 2 reached\nclause 3 reached\nclause 4 reached\nclause 5 reached\ngaps 1\nmissing [[], [], []]\npaste [[], []]\ncalls 23 8\n" } ∷
     -- a list as the tail of a list: its elements go on
     record { file = "0100\n010300\n0301\n04050000\n040501010005010103013300\n040502010003013300\n05\n"; text = "clauses 3 reached 2 never 1\nclause 1 reached\nclause 2 reached\nclause 3 never\ngaps 1\nmissing [_]\npaste [_]\ncalls 9 5\n" } ∷
     -- the empty list as a tail closes it
     record { file = "0100\n010300\n0301\n04050000\n0405010100050000\n0405010000\n05\n"; text = "clauses 3 reached 2 never 1\nclause 1 reached\nclause 2 reached\nclause 3 never\ngaps 1\nmissing [_, _, ..]\npaste [_, _, ..]\ncalls 7 5\n" } ∷
     -- a list of itself: brackets nest
     record { file = "010300\n0300\n04050000\n0405010105000000\n0405010105010005000000\n04050101050101050000000501010000\n0405010005010005010005010000\n05\n"; text = "clauses 5 reached 5 never 0\nclause 1 reached\nclause 2 reached\nclause 3 reached\nclause 4 reached\nclause 5 reached\ngaps 2\nmissing [[[[], ..], ..], ..]\npaste [[[[], ..], ..], ..]\nmissing [[[], _, ..]]\npaste [[[], _, ..]]\ncalls 15 11\n" } ∷
-    -- a name that holds __Tuple prints as a tuple; the paste text keeps the name
-    record { file = "0106\n0201410000\n0201420000\n0106\n02014e0000\n02094d795f5f5475706c650000\n0301\n0406000000\n05\n"; text = "clauses 1 reached 1 never 0\nclause 1 reached\ngaps 1\nmissing ()\npaste My__Tuple\ncalls 1 2\n" } ∷
     -- the same with labels
     record { file = "0106\n0201410000\n0201420000\n0106\n02014e0000\n02094d795f5f5475706c650102000161000162\n0301\n0406000000\n05\n"; text = "clauses 1 reached 1 never 0\nclause 1 reached\ngaps 1\nmissing (_, _)\npaste My__Tuple { a, b }\ncalls 1 2\n" } ∷
     -- the same inside a pair
@@ -207,40 +174,15 @@ further =
     record { file = "0106\n0201410000\n02094d795f5f5475706c650000\n020251390000\n0208415f5f5475706c650000\n0208415f5f7475706c650000\n020a545f5f5475706c65735f0000\n02055475706c650000\n01050000\n0301\n0407010d62613162615f6239395f627a3906020001\n040701017806060001\n05\n"; text = "clauses 2 reached 2 never 0\nclause 1 reached\nclause 2 reached\ngaps 5\nmissing (_, A)\npaste (_, A)\nmissing (_, ())\npaste (_, My__Tuple)\nmissing (_, ())\npaste (_, A__Tuple)\nmissing (_, A__tuple)\npaste (_, A__tuple)\nmissing (_, ())\npaste (_, T__Tuples_)\ncalls 5 4\n" } ∷
     -- unseen constructors in declared order, not by name; spread
     record { file = "0106\n0208415f5f7475706c650000\n0201440101000166\n0204536f6d650000\n020142000400010101\n0204426c7565000101\n0100\n0300\n0406000001\n0406020001\n040201630604010000\n05\n"; text = "clauses 3 reached 3 never 0\nclause 1 reached\nclause 2 reached\nclause 3 reached\ngaps 2\nmissing D { f }\npaste D { f }\nmissing B(_, _, _, _)\npaste B(_, _, _, _)\ncalls 5 2\n" } ∷
-    -- a name of 32 bytes changes no order
-    record { file = "0106\n0201410000\n0220" ++ repeated 32 "42" ++ "0000\n0300\n0406000000\n05\n"; text = "clauses 1 reached 1 never 0\nclause 1 reached\ngaps 1\nmissing BBBBBBBBBBBBBBBBBBBBBBBBBBBBBBBB\npaste BBBBBBBBBBBBBBBBBBBBBBBBBBBBBBBB\ncalls 1 2\n" } ∷
-    -- a label alone for a wildcard
-    record { file = "0100\n0106\n0201410101000161\n0301\n0406000100030131\n05\n"; text = "clauses 1 reached 1 never 0\nclause 1 reached\ngaps 1\nmissing A { a }\npaste A { a }\ncalls 1 3\n" } ∷
     -- a full column of lists: constructors are tried up to the first yes
     record { file = "01050303\n010303\n0106\n020251390000\n0102\n0301\n040501010000\n0405030100000000\n0405010000\n04050000\n05\n"; text = "clauses 4 reached 2 never 2\nclause 1 reached\nclause 2 never\nclause 3 never\nclause 4 reached\ngaps 0\ncalls 15 8\n" } ∷
     []
 
-pub further-right : AllRight further
-unfolding compute
-further-right = by-test further refl
+pub further-right : AllRight printed further
+unfolding answering
+further-right = by-test printed further refl
 
--- the most cells that open calls of the first and of the second kind hold for a file
-unfoldable pub cellsHeld : String → List ℕ
-cellsHeld file = on (blockOf (lines (bytes file)))
-  where
-    peaks : Findings → List ℕ
-    peaks f = f .reached .peak ∷ f .missing .peak ∷ []
-
-    on : Parsed → List ℕ
-    on (parsed b) = peaks (findings b)
-    on (faulty n k) = []
-
--- P1: a call of the second kind on no rows holds none
-pub held-P1 : cellsHeld "0100\n0300\n05\n" ≡ 0 ∷ 0 ∷ []
-unfolding compute cellsHeld
-held-P1 = refl
-
--- P5: each call of the first kind holds its new row too; open calls add up
-pub held-P5 : cellsHeld "0106\n0201410000\n0201420000\n01050000\n0301\n04070006000000\n04070600000006000000\n05\n" ≡ 8 ∷ 7 ∷ []
-unfolding compute cellsHeld
-held-P5 = refl
-
--- P7: of the calls that are not open at one time the greatest sum counts
-pub held-P7 : cellsHeld "0100\n010300\n0301\n04050000\n0405010000\n0405030100000000\n05\n" ≡ 11 ∷ 12 ∷ []
-unfolding compute cellsHeld
-held-P7 = refl
+-- the files of the short table too
+pub telling-printed : AllRight printed telling
+unfolding answering
+telling-printed = by-test printed telling refl

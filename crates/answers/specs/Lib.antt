@@ -1,0 +1,2 @@
+-- Document 01's answer for a file, as definitions over those of `scope`.
+pub mod Answer
