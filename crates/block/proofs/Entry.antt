@@ -12,7 +12,7 @@ use Rattle.answers.specs.Answer.{answer, reportText, bufferAfter}
 use Rattle.answers.proofs.Answers.{scratch-zero, scratch-length}
 use Rattle.answers.proofs.Refusals.{refused-line, refused-keeps, report-fills}
 use Rattle.meaning.proofs.Promised.{promises, reported}
-use Rattle.source.proofs.Agreement.{source-agrees}
+use Rattle.agreement.proofs.Agreement.{source-agrees}
 use Rattle.block.specs.Check.{Checked}
 use Rattle.block.specs.Mission.{Reports, Answered, aReport, aRefusal, Mission}
 

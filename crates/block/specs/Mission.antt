@@ -9,7 +9,7 @@ use Rattle.scope.specs.Lists.{Text}
 use Rattle.scope.specs.Lines.{lines}
 use Rattle.scope.specs.Report.{findings, report}
 use Rattle.meaning.specs.Promises.{Promises}
-use Rattle.source.specs.Agreement.{SourceAgrees}
+use Rattle.agreement.specs.Agreement.{SourceAgrees}
 use Rattle.answers.proofs.Refusals.{Refusal}
 
 -- a report of n bytes was written over a buffer

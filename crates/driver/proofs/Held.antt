@@ -14,8 +14,8 @@ use Rattle.meaning.proofs.Gaps.{missing-typed}
 use Rattle.entering.specs.Said as read
 use Rattle.reading.specs.Files.{HoldsBlock}
 use Rattle.reading.proofs.Literals.{block-literal}
-use Rattle.source.proofs.Blocks.{block-sound}
-use Rattle.source.proofs.Tables.{not-cell}
+use Rattle.agreement.proofs.Blocks.{block-sound}
+use Rattle.agreement.proofs.Tables.{not-cell}
 use Rattle.judging.specs.Blocks.{Slices, lent, Holds, Known}
 
 -- missing rows are patterns of the subject's type

@@ -14,7 +14,7 @@ use Rattle.scope.specs.Patterns.{Matrix}
 use Rattle.scope.specs.Walks.{seen, allSeen, columnType, Column, bare, part, full, columnAt, column}
 use Rattle.source.specs.Source as rust
 use Rattle.source.specs.Source.{ValueConstructor, Panic, Entry, containsKey, before, place, replace, insert, collectInto, collectCtors, constructorsFor}
-use Rattle.source.specs.Agreement.{wilds, lits, cons, ShowsRows, noRows, also}
+use Rattle.source.specs.Shows.{wilds, lits, cons, ShowsRows, noRows, also}
 use Rattle.scope.proofs.Tests.{clash, both, same-true}
 use Rattle.source.proofs.Rows.{Named, eqb-sym, name-number}
 

@@ -1,9 +1,4 @@
--- That on every block the flat walks and texts equal the Rust's own.
+-- That the flat walks equal the Rust's own.
 pub mod Rows
 pub mod Columns
 pub mod Walks
-pub mod Texts
-pub mod Clauses
-pub mod Tables
-pub mod Blocks
-pub mod Agreement

@@ -14,7 +14,7 @@ use Rattle.scope.specs.Patterns.{Literal, int, byteArray, literalKind, sameLite
 use Rattle.scope.specs.Walks as flat
 use Rattle.source.specs.Source as rust
 use Rattle.source.specs.Source.{Patterns, []ᵖ, _∷ᵖ_, _++ᵖ_, len, wildcards, Panic}
-use Rattle.source.specs.Agreement.{Made, Shows, done, wilds, lits, cons, ShowsRows, noRows, also}
+use Rattle.source.specs.Shows.{Made, Shows, done, wilds, lits, cons, ShowsRows, noRows, also}
 use Rattle.scope.proofs.Tests.{neither, same-self}
 
 -- Names of one type

@@ -13,7 +13,7 @@ use Rattle.scope.specs.Walks.{Walk, plain, holding, turned, joined, seen, Colum
 use Rattle.scope.specs.Walks as flat
 use Rattle.source.specs.Source as rust
 use Rattle.source.specs.Source.{ValueConstructor, constructor, Patterns, []ᵖ, _∷ᵖ_, _++ᵖ_, len, wildcards, Panic, firstOf, restOf, Entry, containsKey, completeBy, anyAlt, isMissing, concatAlts, valueConstructor, constructorsFor}
-use Rattle.source.specs.Agreement.{Made, Shows, done, wilds, lits, cons, ShowsRows, noRows, also, ShowsWalk}
+use Rattle.source.specs.Shows.{Made, Shows, done, wilds, lits, cons, ShowsRows, noRows, also, ShowsWalk}
 use Rattle.laws.proofs.Steps.{useful-fuel, missing-fuel}
 use Rattle.source.proofs.Rows.{Named, len-append, len-wildcards, shows-len, rows-length, rows-append, shows-wilds, wildcard-shows, literal-shows, ctor-shows}
 use Rattle.source.proofs.Columns.{ColumnAgrees, bares, parts, fulls, Keyed, key-seen, column-agrees}

@@ -1,3 +1,3 @@
--- The Rust's own functions, transcribed, and the statement that the definitions agree with them.
+-- The Rust's own walks, transcribed, and what it means that flat rows show its trees.
 pub mod Source
-pub mod Agreement
+pub mod Shows

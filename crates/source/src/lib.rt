@@ -1,1 +1,1 @@
-// The Rust's own functions on its own trees, and that the flat walks and texts equal them. No code that runs.
+// The Rust's own walks on its own trees, and that the flat walks equal them. No code that runs.

@@ -11,12 +11,14 @@ use lib.Dec.{ltb, leb, eqb}
 use borrow.Author.Tests.{ltb-true, le-ltb, eqb-true}
 use Rattle.scope.specs.Types.{Ref, Ctor, Ty, integer, byteString, opaque, list, tuple, pair, dat, Table, typeAt, fieldsOf, fieldsAt, built, ctorsAt, ctors, ctorAt, arity, kind, consName, nilName, tupleName}
 use Rattle.scope.specs.Patterns.{Literal, Node, wild, lit, con, Row, Raw, Item, put, pat, suiting, cells, enough, arguments, whole, opened, putting, allPut, _>>=_, simplified, simplify}
-use Rattle.source.specs.Source as rust
-use Rattle.source.specs.Source.{Pattern, constructor, Patterns, []ᵖ, _∷ᵖ_, _++ᵖ_, len, wildcards, listConstructors, tupleConstructors, valueConstructor, constructorsFor, TypedPattern, TypedPatterns, []ᵗ, _∷ᵗ_, count, Panic, spreadBy, simplifyEach, simplifyCells}
-use Rattle.source.specs.Agreement.{Made, Shows, done, wilds, lits, cons, written, writtenEach}
+use Rattle.agreement.specs.Trees as rust
+use Rattle.source.specs.Source.{Pattern, constructor, Patterns, []ᵖ, _∷ᵖ_, _++ᵖ_, len, wildcards, valueConstructor, constructorsFor, Panic}
+use Rattle.agreement.specs.Trees.{listConstructors, tupleConstructors, TypedPattern, TypedPatterns, []ᵗ, _∷ᵗ_, count, spreadBy, simplifyEach, simplifyCells}
+use Rattle.source.specs.Shows.{Made, Shows, done, wilds, lits, cons}
+use Rattle.agreement.specs.Agreement.{written, writtenEach}
 use Rattle.scope.proofs.Tests.{clash, both}
 use Rattle.laws.proofs.Typing.{enough-le, suiting-some}
 use Rattle.source.proofs.Rows.{len-append, len-wildcards, shows-wilds}
 
 -- patterns, one after another
 infixl 65 _++ᵗ_

@@ -12,8 +12,8 @@ use Rattle.scope.specs.Types.{Ref, Ctor, Ty, integer, byteString, opaque, list,
 use Rattle.scope.specs.Frames.{Read, fault, found, Reader, andThen, _>>=_, give, byte, passing, within, flag, times, choosing, isUpper, isBig, name, bigName, smallName, typeKinds, typeFrame, fieldsFor, constructorFrame}
 use Rattle.scope.specs.Blocks.{isFresh}
 use Rattle.scope.proofs.Tests.{clash, both, neither}
 use Rattle.source.proofs.Rows.{same-sym}
-use Rattle.source.proofs.Texts.{Labelled, bare, each, Formed, Proper}
+use Rattle.agreement.proofs.Texts.{Labelled, bare, each, Formed, Proper}
 
 -- what is read, if anything is, is so
 abbrev pub Of : {A : Type 0} → (A → Type 0) → Read A → Type 0

@@ -14,13 +14,14 @@ use Rattle.scope.specs.Types.{Ref, Ctor, Table, alts, ctors, ctorAt, fieldsAt, 
 use Rattle.scope.specs.Patterns.{Literal, Node, wild, lit, con, Row, Matrix}
 use Rattle.scope.specs.Text.{commas, contains, skip, source, textUnless, Look, look, lookByName, Place, alone, inTail, texts, fieldText, fieldTexts, argumentText, prettyCtor, tailCtor, prettyStep, prettyAt}
 use Rattle.scope.specs.Walks as flat
-use Rattle.source.specs.Source as rust
-use Rattle.source.specs.Source.{ValueConstructor, Pattern, wildcard, literal, constructor, Patterns, []ᵖ, _∷ᵖ_, _++ᵖ_, len, Panic, cellTexts, tailTexts, findMap, labelText, labelTexts, prettyRecord, pretty, prettyTail, prettyArgs, fieldMapOf, valueConstructor}
-use Rattle.source.specs.Agreement.{Made, Shows, done, wilds, lits, cons}
+use Rattle.agreement.specs.Trees as rust
+use Rattle.source.specs.Source.{ValueConstructor, Pattern, wildcard, literal, constructor, Patterns, []ᵖ, _∷ᵖ_, _++ᵖ_, len, Panic, fieldMapOf, valueConstructor}
+use Rattle.agreement.specs.Trees.{cellTexts, tailTexts, findMap, labelText, labelTexts, prettyRecord, pretty, prettyTail, prettyArgs}
+use Rattle.source.specs.Shows.{Made, Shows, done, wilds, lits, cons}
 use Rattle.scope.proofs.Tests.{clash, same-true, same-self}
 use Rattle.laws.proofs.Texts.{pretty-law}
 use Rattle.source.proofs.Rows.{Named, name-number, shows-len}
 use Rattle.source.proofs.Walks.{From, over, next, from-all}
 
 -- a constructor has no labels, or one for each field
 pub data Labelled : List Text → ℕ → Type 0 where

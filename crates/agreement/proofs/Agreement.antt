@@ -15,23 +15,26 @@ use Rattle.scope.specs.Walks.{Walk, turned, joined, ctorsIn, weight, widest, co
 use Rattle.scope.specs.Text.{source, alone, prettyAt}
 use Rattle.scope.specs.Blocks.{Block, parsed, blockOf}
 use Rattle.scope.specs.Report as report
 use Rattle.source.specs.Source as rust
-use Rattle.source.specs.Source.{Patterns, []ᵖ, _∷ᵖ_, Panic, prettyArgs, prettyEach, TypedPattern}
-use Rattle.source.specs.Agreement as agreement
-use Rattle.source.specs.Agreement.{Shows, ShowsRows, noRows, also, written, SourceAgrees}
+use Rattle.agreement.specs.Trees as typed
+use Rattle.source.specs.Source.{Patterns, []ᵖ, _∷ᵖ_, Panic}
+use Rattle.agreement.specs.Trees.{prettyArgs, prettyEach, TypedPattern}
+use Rattle.agreement.specs.Agreement as agreement
+use Rattle.source.specs.Shows.{Shows, ShowsRows, noRows, also}
+use Rattle.agreement.specs.Agreement.{written, SourceAgrees}
 use Rattle.laws.proofs.Costs.{sum-append}
 use Rattle.source.proofs.Rows.{Named, shows-len, rows-append}
 use Rattle.source.proofs.Walks.{useful-agrees, missing-agrees}
-use Rattle.source.proofs.Texts.{Proper, pretty-agrees, FreeRows, and-row, all-free}
-use Rattle.source.proofs.Clauses.{simplify-shows}
-use Rattle.source.proofs.Tables.{proper}
-use Rattle.source.proofs.Blocks.{Simplifies, no-clauses, also-clause, block-sound}
+use Rattle.agreement.proofs.Texts.{Proper, pretty-agrees, FreeRows, and-row, all-free}
+use Rattle.agreement.proofs.Clauses.{simplify-shows}
+use Rattle.agreement.proofs.Tables.{proper}
+use Rattle.agreement.proofs.Blocks.{Simplifies, no-clauses, also-clause, block-sound}
 
 -- the trees of a block's clauses
 record Trees (table : Table) (t : Ref) (raws : List (List Raw)) (m : Matrix) : Type 0 where
   trees : List TypedPattern
   as-written : map written trees ≡ raws
-  shown : (panic : Panic) → ShowsRows table (t ∷ []) m (map (λ p. rust.simplify panic table t p ∷ᵖ []ᵖ) trees)
+  shown : (panic : Panic) → ShowsRows table (t ∷ []) m (map (λ p. typed.simplify panic table t p ∷ᵖ []ᵖ) trees)
 
 trees-of : {table : Table} {t : Ref} {raws : List (List Raw)} {m : Matrix} → Simplifies table t raws m → Trees table t raws m
 trees-of no-clauses = record { trees = []; as-written = refl; shown = λ panic. noRows }
