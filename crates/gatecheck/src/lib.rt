@@ -1,6 +1,6 @@
 // `check` for programs in C and Rust: the static library.
-use answers::Answer;
 use block::check;
+use numbers::tell;
 ghost use Rattle.gatecheck.specs.Called.{Called};
 
 // The answer's number, 0 for a report; its line and the report's length through the last two.
@@ -15,16 +15,5 @@ pub extern "C" fn gatesorrel_check(
     ensures { λ r. ⌜ Called (now (file .entry)) (now (scratch .entry)) (now (report .entry)) r (now (line .exit)) (now (length .exit)) (now (report .exit)) (now (scratch .exit)) ⌝ }
 {
     let r = check(file, scratch, report);
-    match r {
-        Answer::Report { length: n } => {
-            *line = 0;
-            *length = n;
-            0
-        }
-        Answer::Refused { number, line: k } => {
-            *line = k;
-            *length = 0;
-            number
-        }
-    }
+    tell(r, line, length)
 }

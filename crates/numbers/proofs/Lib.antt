@@ -1,0 +1,2 @@
+-- What the proof of `tell` uses.
+mod Telling
