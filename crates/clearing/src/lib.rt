@@ -1,45 +1,43 @@
-// The slices that a block stands in, zero everywhere: cells of types, of constructors, of fields and of rows.
-use cells::clear;
-use cells::clear8;
+// The tables that a block stands in, zero everywhere: cells of types, of constructors, of fields and of rows.
 ghost use mathlib.Core.Path.{_≡_};
-ghost use lib.ListN.{length, replicate};
+ghost use lib.ListN.{replicate};
 
 // A cell for each type.
-pub fn clear_types(kinds: &mut [u8], counts: &mut [u8])
-    ensures { λ _. ⌜ now (kinds .exit) ≡ replicate (length (now (kinds .entry))) 0 ⌝ }
-    ensures { λ _. ⌜ now (counts .exit) ≡ replicate (length (now (counts .entry))) 0 ⌝ }
+pub fn clear_types(kinds: &mut [u8; 64], counts: &mut [u8; 64])
+    ensures { λ _. ⌜ now (kinds .exit) ≡ replicate 64 0 ⌝ }
+    ensures { λ _. ⌜ now (counts .exit) ≡ replicate 64 0 ⌝ }
 {
-    clear8(kinds);
-    clear8(counts);
+    *kinds = [0; 64];
+    *counts = [0; 64];
 }
 
 // A cell for each constructor.
-pub fn clear_ctors(arities: &mut [u8], starts: &mut [u16], names: &mut [u16])
-    ensures { λ _. ⌜ now (arities .exit) ≡ replicate (length (now (arities .entry))) 0 ⌝ }
-    ensures { λ _. ⌜ now (starts .exit) ≡ replicate (length (now (starts .entry))) 0 ⌝ }
-    ensures { λ _. ⌜ now (names .exit) ≡ replicate (length (now (names .entry))) 0 ⌝ }
+pub fn clear_ctors(arities: &mut [u8; 2048], starts: &mut [u16; 2048], names: &mut [u16; 2048])
+    ensures { λ _. ⌜ now (arities .exit) ≡ replicate 2048 0 ⌝ }
+    ensures { λ _. ⌜ now (starts .exit) ≡ replicate 2048 0 ⌝ }
+    ensures { λ _. ⌜ now (names .exit) ≡ replicate 2048 0 ⌝ }
 {
-    clear8(arities);
-    clear(starts);
-    clear(names);
+    *arities = [0; 2048];
+    *starts = [0; 2048];
+    *names = [0; 2048];
 }
 
 // A cell for each field.
-pub fn clear_fields(fields: &mut [u8], labels: &mut [u16])
-    ensures { λ _. ⌜ now (fields .exit) ≡ replicate (length (now (fields .entry))) 0 ⌝ }
-    ensures { λ _. ⌜ now (labels .exit) ≡ replicate (length (now (labels .entry))) 0 ⌝ }
+pub fn clear_fields(fields: &mut [u8; 5120], labels: &mut [u16; 5120])
+    ensures { λ _. ⌜ now (fields .exit) ≡ replicate 5120 0 ⌝ }
+    ensures { λ _. ⌜ now (labels .exit) ≡ replicate 5120 0 ⌝ }
 {
-    clear8(fields);
-    clear(labels);
+    *fields = [0; 5120];
+    *labels = [0; 5120];
 }
 
 // The nodes of the rows, and a cell for each row.
-pub fn clear_rows(nodes: &mut [u16], left: &mut [u16], rows: &mut [u16])
-    ensures { λ _. ⌜ now (nodes .exit) ≡ replicate (length (now (nodes .entry))) 0 ⌝ }
-    ensures { λ _. ⌜ now (left .exit) ≡ replicate (length (now (left .entry))) 0 ⌝ }
-    ensures { λ _. ⌜ now (rows .exit) ≡ replicate (length (now (rows .entry))) 0 ⌝ }
+pub fn clear_rows(nodes: &mut [u16; 4160], left: &mut [u16; 4160], rows: &mut [u16; 64])
+    ensures { λ _. ⌜ now (nodes .exit) ≡ replicate 4160 0 ⌝ }
+    ensures { λ _. ⌜ now (left .exit) ≡ replicate 4160 0 ⌝ }
+    ensures { λ _. ⌜ now (rows .exit) ≡ replicate 64 0 ⌝ }
 {
-    clear(nodes);
-    clear(left);
-    clear(rows);
+    *nodes = [0; 4160];
+    *left = [0; 4160];
+    *rows = [0; 64];
 }

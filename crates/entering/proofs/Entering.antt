@@ -1,14 +1,14 @@
 -- After each frame the slices and the numbers say what the definitions' next state is.
 use mathlib.Core.Path.{_≡_, refl, sym, ap, subst, _∙_}
-use mathlib.Core.Bool.{true, false, cond, _&&_}
-use mathlib.Core.List.{List, [], _∷_, _++_}
+use mathlib.Core.Bool.{Bool, true, false, cond, _&&_}
+use mathlib.Core.List.{List, [], _∷_, _++_, map}
 use mathlib.Core.Option.{Option, none, some}
-use Prim.Native.Nat.{ℕ, _+_, _-_, _%_, _≤_, _<_}
+use Prim.Native.Nat.{ℕ, _+_, _*_, _-_, _%_, _≤_, _<_}
 use native.Mathlib.Omega.{arith}
 use borrow.Author.Count.{below-more}
 use borrow.Author.Tests.{ltb-true, leb-true}
-use lib.ListN.{length, getD, take, drop, set, length-append, length-set, List·getD-append}
-use lib.Seq.{length-sets, getD-set-same, getD-set-other}
+use lib.ListN.{length, getD, take, drop, set, replicate, length-append, length-set, List·getD-append}
+use lib.Seq.{sets, length-sets, getD-set-same, getD-set-other}
 use lib.Dec.{leb, eqb}
 use Rattle.scope.proofs.Tests.{clash, both}
 use Rattle.scope.specs.Types.{Ty, integer, byteString, opaque, list, tuple, pair, dat, Ctor, Table, kind, isRef, refsGood, allFinite, lastDeclared, addCtor}
@@ -17,7 +17,8 @@ use Rattle.scope.specs.Frames.{found, typeFrame, constructorFrame, patterns, ty
 use Rattle.scope.specs.Blocks as scope
 use Rattle.scope.specs.Blocks.{Block, types, constructors, clauses, closed, ok, _>>=_, need, suited, nodesIn, isFresh, isSound, afterType, withTable, withRow, enter}
 use Rattle.table.proofs.FrameBytes.{type-read}
-use Rattle.table.specs.Build.{EndsInData}
+use Rattle.layout.specs.Places.{labelled, reads}
+use Rattle.table.specs.Build.{EndsInData, low, typeArities, typeFields, WithType, flagAt, arityIn, isBare, fieldPlaces, labelsWith, WithCtor}
 use Rattle.table.proofs.Tables.{data-ends, added-ends}
 use Rattle.table.proofs.TypeMeans.{Room, type-holds}
 use Rattle.table.proofs.CtorMeans.{ctor-holds}
@@ -95,7 +96,73 @@ sound-parts table t e =
     let b = both (isRef table t) (refsGood table) (a .0) in
     (ltb-true t (length table) (b .0), b .1)
 
-module _ {h : Held} {s : State} {σ : scope.State} (z : Sized h) (w : Says h s σ) where
+-- a list is as long as before where a cell of it is set, or cells one after another
+set-long : {d′ : List ℕ} {n : ℕ} (d : List ℕ) (i x : ℕ) → d′ ≡ set d i x → length d ≡ n → length d′ ≡ n
+set-long d i x e l = ap length e ∙ length-set d i x ∙ l
+
+sets-long : {d′ : List ℕ} {n : ℕ} (d : List ℕ) (i : ℕ) (xs : List ℕ) → d′ ≡ sets d i xs → length d ≡ n → length d′ ≡ n
+sets-long d i xs e l = ap length e ∙ length-sets d i xs ∙ l
+
+labels-long : {labels′ : List ℕ} {m : ℕ} (bytes : List ℕ) (flag n used : ℕ) (labels : List ℕ) → labels′ ≡ labelsWith bytes flag n used labels → length labels ≡ m → length labels′ ≡ m
+unfolding labelsWith
+labels-long {labels′} {m} bytes flag n used labels e l = ap length e ∙ go (map (λ p. low (p + 1)) (labelled bytes (flag + 2) n)) (isBare bytes flag)
+  where
+    go : (new : List ℕ) (b : Bool) → length (cond b labels (sets labels used new)) ≡ m
+    go new true = l
+    go new false = length-sets labels used new ∙ l
+
+type-sized : {h : Held} {at t used : ℕ} {kinds′ counts′ arities′ starts′ fields′ : List ℕ} → Sized h → WithType (h .bytes) at t used (h .kinds) (h .counts) (h .arities) (h .starts) (h .fields) kinds′ counts′ arities′ starts′ fields′
+    → Sized (held (h .bytes) kinds′ counts′ arities′ starts′ (h .names) fields′ (h .labels) (h .nodes) (h .left) (h .rows))
+type-sized {h} {at} {t} {used} z e =
+    let c = e .ctorsAre in
+    record {
+      kindsLong = set-long (h .kinds) t (getD (h .bytes) at 0) (e .kindsAre) (z .kindsLong);
+      countsLong = set-long (h .counts) t (length (typeArities (h .bytes) at)) (c .countsAre) (z .countsLong);
+      aritiesLong = sets-long (h .arities) (32 * t) (typeArities (h .bytes) at) (c .aritiesAre) (z .aritiesLong);
+      startsLong = sets-long (h .starts) (32 * t) (replicate (length (typeArities (h .bytes) at)) (low used)) (c .startsAre) (z .startsLong);
+      namesLong = z .namesLong;
+      fieldsLong = sets-long (h .fields) used (typeFields (h .bytes) at t) (c .fieldsAre) (z .fieldsLong);
+      labelsLong = z .labelsLong;
+      nodesLong = z .nodesLong;
+      leftLong = z .leftLong;
+      rowsLong = z .rowsLong;
+    }
+
+ctor-sized : {h : Held} {at t used : ℕ} {counts′ arities′ starts′ names′ fields′ labels′ : List ℕ} → Sized h → WithCtor (h .bytes) at t used (h .counts) (h .arities) (h .starts) (h .names) (h .fields) (h .labels) counts′ arities′ starts′ names′ fields′ labels′
+    → Sized (held (h .bytes) (h .kinds) counts′ arities′ starts′ names′ fields′ labels′ (h .nodes) (h .left) (h .rows))
+ctor-sized {h} {at} {t} {used} z e =
+    record {
+      kindsLong = z .kindsLong;
+      countsLong = set-long (h .counts) t (getD (h .counts) t 0 + 1) (e .countsAre) (z .countsLong);
+      aritiesLong = set-long (h .arities) (32 * t + getD (h .counts) t 0) (arityIn (h .bytes) at) (e .aritiesAre) (z .aritiesLong);
+      startsLong = set-long (h .starts) (32 * t + getD (h .counts) t 0) (low used) (e .startsAre) (z .startsLong);
+      namesLong = set-long (h .names) (32 * t + getD (h .counts) t 0) (low at) (e .namesAre) (z .namesLong);
+      fieldsLong = sets-long (h .fields) used (reads (h .bytes) (fieldPlaces (h .bytes) (flagAt (h .bytes) at) (arityIn (h .bytes) at))) (e .fieldsAre) (z .fieldsLong);
+      labelsLong = labels-long (h .bytes) (flagAt (h .bytes) at) (arityIn (h .bytes) at) used (h .labels) (e .labelsAre) (z .labelsLong);
+      nodesLong = z .nodesLong;
+      leftLong = z .leftLong;
+      rowsLong = z .rowsLong;
+    }
+
+clause-sized : {h : Held} {nodes′ left′ rows′ : List ℕ} → Sized h → length nodes′ ≡ 4160 → length left′ ≡ 4160 → length rows′ ≡ 64 → Sized (held (h .bytes) (h .kinds) (h .counts) (h .arities) (h .starts) (h .names) (h .fields) (h .labels) nodes′ left′ rows′)
+clause-sized z a b c =
+    record {
+      kindsLong = z .kindsLong;
+      countsLong = z .countsLong;
+      aritiesLong = z .aritiesLong;
+      startsLong = z .startsLong;
+      namesLong = z .namesLong;
+      fieldsLong = z .fieldsLong;
+      labelsLong = z .labelsLong;
+      nodesLong = a;
+      leftLong = b;
+      rowsLong = c;
+    }
+
+module _ {h : Held} {s : State} {σ : scope.State} (w : Says h s σ) where
+  abbrev z : Sized h
+  z = w .sized
+
   room : Room (h .kinds) (h .counts) (h .arities) (h .starts) (h .names) (h .fields) (h .labels)
   room =
       record {
@@ -125,6 +192,7 @@ module _ {h : Held} {s : State} {σ : scope.State} (z : Sized h) (w : Says h s �
         clausesAre = n .clausesAre;
         rowsAre = no-rows _ _ _ _ _ _ _ (n .countIs) (n .usedIs);
         inPhase = p .1;
+        sized = type-sized z (e .with);
       } in
       goes says
 
@@ -146,6 +214,7 @@ module _ {h : Held} {s : State} {σ : scope.State} (z : Sized h) (w : Says h s �
         clausesAre = n .clausesAre;
         rowsAre = no-rows _ _ _ _ _ _ _ (n .countIs) (n .usedIs);
         inPhase = added-ends d c;
+        sized = ctor-sized z k;
       } in
       rw u (goes says)
 
@@ -166,6 +235,7 @@ module _ {h : Held} {s : State} {σ : scope.State} (z : Sized h) (w : Says h s �
         clausesAre = n .clausesAre;
         rowsAre = no-rows _ _ _ _ _ _ _ (n .countIs) (n .usedIs);
         inPhase = u;
+        sized = z;
       } in
       rw u (goes says)
 
@@ -228,6 +298,7 @@ module _ {h : Held} {s : State} {σ : scope.State} (z : Sized h) (w : Says h s �
             clausesAre = omega (arith, m .clausesAre, w .clausesAre, length-append (b .rows) (v ∷ []));
             rowsAre = more-rows g (leb-true (s .count + n) 4096 l) nodesAre leftAre rowsAre free is size (r′ .count) (r′ .used) (m .countIs) (m .usedIs);
             inPhase = a;
+            sized = clause-sized z (set-long nodes₁ (s .used + n) 0 nodesAre (sets-long (h .nodes) (s .used) (q .new) (q .nodesAre) (z .nodesLong))) (set-long left₁ (s .used + n) 0 leftAre (sets-long (h .left) (s .used) (q .lefts) (q .leftAre) (z .leftLong))) (set-long (h .rows) (s .clauses) (s .used % 65536) rowsAre (z .rowsLong));
           })
 
     -- 05 end
@@ -243,5 +314,6 @@ module _ {h : Held} {s : State} {σ : scope.State} (z : Sized h) (w : Says h s �
           clausesAre = m .clausesAre ∙ w .clausesAre;
           rowsAre = rw (m .countIs, m .usedIs) (w .rowsAre);
           inPhase = a;
+          sized = z;
         } in
         goes says

@@ -20,7 +20,7 @@ use Rattle.admitting.specs.declared.Kind.{Kind}
 use Rattle.admitting.specs.declared.Kind as kind
 use Rattle.admitting.specs.Checked.{checked, kindOf}
 use Rattle.admitting.proofs.Checks.{begins}
-use Rattle.entering.specs.Said.{Held, held, Sized, Says, Stepped, stops}
+use Rattle.entering.specs.Said.{Held, held, Says, Stepped, stops}
 use Rattle.entering.specs.Enters.{EntersType, EntersCtor, EntersSubject, EntersClause, Ended}
 use Rattle.entering.proofs.Framing.{Passed, passed, type-frame, constructor-frame, subject-frame, clause-frame, end-frame, byte-is, framed-is, above, some-type, last-is, sound-clause, sound-end}
 use Rattle.entering.proofs.Entering.{sound-parts, type-steps, ctor-steps, subject-steps, clause-steps, end-steps}
@@ -94,8 +94,9 @@ module _ {h : Held} {s : State} {σ : scope.State} (w : Says h s σ) (last : ℕ
         let r = room-ctor s last (p .roomHere) in
         (t, (r .0, omega (arith, lastIs t, r .1)))
 
-    pub clause-asks : k ≡ 4 → Sized h → (stack : List ℕ) → 1920 ≤ length stack → length (h .bytes) ≤ 24576 → length (h .bytes) ≤ at + 640 → Ready (h .bytes) (at + 1) (s .subject) (h .fields) stack (h .nodes) (s .used)
-    clause-asks e z stack long short line =
+    pub clause-asks : k ≡ 4 → length (h .bytes) ≤ 24576 → length (h .bytes) ≤ at + 640 → (stack : List ℕ) → 1920 ≤ length stack → Ready (h .bytes) (at + 1) (s .subject) (h .fields) stack (h .nodes) (s .used)
+    clause-asks e short line stack long =
+        let z = w .sized in
         let p = past 4 e in
         let c = clause-frame (drop (at + 1) (h .bytes)) f (p .reads) in
         let sub = sound-parts (σ .block .table) (σ .block .subject) (sound-clause w (p .standsHere)) .0 in
@@ -111,15 +112,15 @@ module _ {h : Held} {s : State} {σ : scope.State} (w : Says h s σ) (last : ℕ
           room = omega (arith, z .nodesLong, w .rowsAre .packed, w .rowsAre .short, w .rowsAre .few);
         }
 
-    pub clause-few : k ≡ 4 → (s .count ≤ 4096) × (s .clauses ≤ 64)
-    clause-few e = (w .rowsAre .short, omega (arith, room-clause s last (past 4 e .roomHere)))
+    pub clause-few : k ≡ 4 → (s .used ≡ s .count + s .clauses) × ((s .clauses < 64) × (s .count ≤ 4096))
+    clause-few e = (w .rowsAre .packed ∙ ap (λ (n : ℕ). s .count + n) (sym (w .clausesAre)), (room-clause s last (past 4 e .roomHere), w .rowsAre .short))
 
-    module _ (z : Sized h) (short : length (h .bytes) ≤ 24576) where
+    module _ (short : length (h .bytes) ≤ 24576) where
       pub type-line : k ≡ 1 → (r : State) {kinds′ counts′ arities′ starts′ fields′ : List ℕ} → EntersType (h .bytes) (at + 1) s (h .kinds) (h .counts) (h .arities) (h .starts) (h .fields) kinds′ counts′ arities′ starts′ fields′ r
           → Stepped (held (h .bytes) kinds′ counts′ arities′ starts′ (h .names) fields′ (h .labels) (h .nodes) (h .left) (h .rows)) (On r) (framed σ (drop at (h .bytes)))
       type-line e r x =
           let p = type-frame (drop (at + 1) (h .bytes)) f (past 1 e .reads) in
-          entered (rw (p .1 .0) (type-steps z w (at + 1) r x (type-asks e) (p .0) (p .1 .1)))
+          entered (rw (p .1 .0) (type-steps w (at + 1) r x (type-asks e) (p .0) (p .1 .1)))
 
       pub ctor-line : k ≡ 2 → (r : Step) {counts′ arities′ starts′ names′ fields′ labels′ : List ℕ} → EntersCtor (h .bytes) (at + 1) s (h .counts) (h .arities) (h .starts) (h .names) (h .fields) (h .labels) counts′ arities′ starts′ names′ fields′ labels′ r
           → Stepped (held (h .bytes) (h .kinds) counts′ arities′ starts′ names′ fields′ labels′ (h .nodes) (h .left) (h .rows)) r (framed σ (drop at (h .bytes)))
@@ -127,22 +128,22 @@ module _ {h : Held} {s : State} {σ : scope.State} (w : Says h s σ) (last : ℕ
           let q = past 2 e in
           let p = constructor-frame (drop (at + 1) (h .bytes)) f (q .reads) in
           let m = room-ctor s last (q .roomHere) in
-          entered (rw (p .1 .0) (ctor-steps z w (at + 1) r x (above w (q .standsHere)) (m .0) (omega (arith, last-is w last lastIs (q .standsHere), m .1)) (omega arith) (omega arith) (p .0) (p .1 .1)))
+          entered (rw (p .1 .0) (ctor-steps w (at + 1) r x (above w (q .standsHere)) (m .0) (omega (arith, last-is w last lastIs (q .standsHere), m .1)) (omega arith) (omega arith) (p .0) (p .1 .1)))
 
       pub subject-line : k ≡ 3 → (r : Step) → EntersSubject (h .bytes) (at + 1) s (h .kinds) (h .counts) (h .arities) (h .starts) (h .fields) r → Stepped h r (framed σ (drop at (h .bytes)))
       subject-line e r x =
           let p = subject-frame (drop (at + 1) (h .bytes)) f (past 3 e .reads) in
-          entered (rw (p .1 .0) (subject-steps z w (at + 1) r x (p .0) (byte-is (h .bytes) (at + 1) (p .0) [] (p .1 .1))))
+          entered (rw (p .1 .0) (subject-steps w (at + 1) r x (p .0) (byte-is (h .bytes) (at + 1) (p .0) [] (p .1 .1))))
 
       pub clause-line : k ≡ 4 → (r : Step) {nodes′ left′ rows′ : List ℕ} → EntersClause (h .bytes) (at + 1) s (h .kinds) (h .counts) (h .arities) (h .starts) (h .fields) (h .nodes) (h .left) (h .rows) nodes′ left′ rows′ r
           → Stepped (held (h .bytes) (h .kinds) (h .counts) (h .arities) (h .starts) (h .names) (h .fields) (h .labels) nodes′ left′ rows′) r (framed σ (drop at (h .bytes)))
       clause-line e r x =
           let q = past 4 e in
           let p = clause-frame (drop (at + 1) (h .bytes)) f (q .reads) in
-          entered (rw (p .1 .0) (clause-steps z w (sound-clause w (q .standsHere)) (at + 1) (p .0) (p .1 .1) r x (room-clause s last (q .roomHere))))
+          entered (rw (p .1 .0) (clause-steps w (sound-clause w (q .standsHere)) (at + 1) (p .0) (p .1 .1) r x (room-clause s last (q .roomHere))))
 
       pub end-line : (k ≡ 1 → ⊥) → (k ≡ 2 → ⊥) → (k ≡ 3 → ⊥) → (k ≡ 4 → ⊥) → (r : State) → Ended s r → Stepped h (On r) (framed σ (drop at (h .bytes)))
       end-line a b c d r x =
           let e : k ≡ 5 = is-end k (past k refl .known) a b c d in
           let q = past 5 e in
-          entered (rw (end-frame (drop (at + 1) (h .bytes)) f (q .reads)) (end-steps z w (sound-end w (q .standsHere)) r x))
+          entered (rw (end-frame (drop (at + 1) (h .bytes)) f (q .reads)) (end-steps w (sound-end w (q .standsHere)) r x))

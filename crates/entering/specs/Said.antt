@@ -63,7 +63,7 @@ pub record Rows (bytes nodes left rows : List ℕ) (count used : ℕ) (table : T
   pub each : (i : ℕ) → i < length m → RowAt bytes nodes left table (getD rows i 0) (getD m i [])
   pub before : (i : ℕ) → i < length m → getD rows i 0 + length (getD m i []) < used
 
--- the slices and the numbers say what the lines so far have said
+-- the slices, as long as the limits say, and the numbers say what the lines so far have said
 pub record Says (h : Held) (s : State) (σ : scope.State) : Type 0 where
   pub phaseIs : phaseOf (s .phase) ≡ σ .phase
   pub holds : Holds (h .bytes) (h .kinds) (h .counts) (h .arities) (h .starts) (h .names) (h .fields) (h .labels) (s .types) (s .ctors) (s .fields) (σ .block .table)
@@ -72,6 +72,7 @@ pub record Says (h : Held) (s : State) (σ : scope.State) : Type 0 where
   pub clausesAre : s .clauses ≡ length (σ .block .rows)
   pub rowsAre : Rows (h .bytes) (h .nodes) (h .left) (h .rows) (s .count) (s .used) (σ .block .table) (σ .block .rows)
   pub inPhase : InPhase (σ .phase) (σ .block)
+  pub sized : Sized h
 
 -- they say some state
 pub record Known (h : Held) (s : State) : Type 0 where

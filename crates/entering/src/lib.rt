@@ -2,10 +2,8 @@
 use admitting::Kind;
 use admitting::kind_of;
 use cells::at8;
-use cells::put16;
 use cells::wide8;
 use fresh::is_fresh;
-use nodes::close;
 use order::State;
 use order::has_nodes;
 use patterns::Simplified;
@@ -15,12 +13,13 @@ use table::Sizes;
 use table::add_ctor;
 use table::add_type;
 ghost use mathlib.Core.Path.{_≡_};
-ghost use Prim.Native.Nat.{_+_, _-_, _<_, _≤_, _^_};
+ghost use mathlib.Core.List.{List};
+ghost use Prim.Native.Nat.{ℕ, _+_, _-_, _<_, _≤_, _^_};
 ghost use Rattle.patterns.specs.Rows.{Ready};
 ghost use lib.ListN.{length, getD, drop};
 ghost use Rattle.scope.specs.Blocks as scope;
 ghost use Rattle.scope.specs.Blocks.{framed};
-ghost use Rattle.entering.specs.Said.{held, Sized, Known, Says, Stepped};
+ghost use Rattle.entering.specs.Said.{held, Known, Says, Stepped};
 ghost use Rattle.entering.specs.Enters.{EntersType, EntersCtor, EntersSubject, EntersClause, Ended};
 
 pub enum Step {
@@ -33,11 +32,11 @@ fn enter_type(
     bytes: &[u8],
     at: usize,
     s: State,
-    kinds: &mut [u8],
-    counts: &mut [u8],
-    arities: &mut [u8],
-    starts: &mut [u16],
-    fields: &mut [u8],
+    kinds: &mut [u8; 64],
+    counts: &mut [u8; 64],
+    arities: &mut [u8; 2048],
+    starts: &mut [u16; 2048],
+    fields: &mut [u8; 5120],
 ) -> State
     requires { ⌜ at < 2 ^ 32 ⌝ }
     requires { ⌜ s .types < 64 ⌝ }
@@ -80,12 +79,12 @@ fn enter_ctor(
     bytes: &[u8],
     at: usize,
     s: State,
-    counts: &mut [u8],
-    arities: &mut [u8],
-    starts: &mut [u16],
-    names: &mut [u16],
-    fields: &mut [u8],
-    labels: &mut [u16],
+    counts: &mut [u8; 64],
+    arities: &mut [u8; 2048],
+    starts: &mut [u16; 2048],
+    names: &mut [u16; 2048],
+    fields: &mut [u8; 5120],
+    labels: &mut [u16; 5120],
 ) -> Step
     requires { ⌜ at < 2 ^ 32 ⌝ }
     requires { ⌜ 0 < s .types ⌝ }
@@ -132,11 +131,11 @@ fn enter_subject(
     bytes: &[u8],
     at: usize,
     s: State,
-    kinds: &[u8],
-    counts: &[u8],
-    arities: &[u8],
-    starts: &[u16],
-    fields: &[u8],
+    kinds: &[u8; 64],
+    counts: &[u8; 64],
+    arities: &[u8; 2048],
+    starts: &[u16; 2048],
+    fields: &[u8; 5120],
 ) -> Step
     requires { ⌜ s .types ≤ 64 ⌝ }
     ensures { λ r. ⌜ EntersSubject (now (bytes .entry)) at s (now (kinds .entry)) (now (counts .entry)) (now (arities .entry)) (now (starts .entry)) (now (fields .entry)) r ⌝ }
@@ -162,21 +161,22 @@ fn enter_clause(
     bytes: &[u8],
     at: usize,
     s: State,
-    kinds: &[u8],
-    counts: &[u8],
-    arities: &[u8],
-    starts: &[u16],
-    fields: &[u8],
-    stack: &mut [u16],
-    nodes: &mut [u16],
-    left: &mut [u16],
-    rows: &mut [u16],
+    kinds: &[u8; 64],
+    counts: &[u8; 64],
+    arities: &[u8; 2048],
+    starts: &[u16; 2048],
+    fields: &[u8; 5120],
+    nodes: &mut [u16; 4160],
+    left: &mut [u16; 4160],
+    rows: &mut [u16; 64],
 ) -> Step
-    requires { ⌜ Ready (now bytes) at (s .subject) (now fields) (now stack) (now nodes) (s .used) ⌝ }
+    requires { ⌜ ((stack : List ℕ) → 1920 ≤ length stack → Ready (now bytes) at (s .subject) (now fields) stack (now nodes) (s .used)) ⌝ }
+    requires { ⌜ s .used ≡ s .count + s .clauses ⌝ }
+    requires { ⌜ s .clauses < 64 ⌝ }
     requires { ⌜ s .count ≤ 4096 ⌝ }
-    requires { ⌜ s .clauses ≤ 64 ⌝ }
     ensures { λ r. ⌜ EntersClause (now (bytes .entry)) at s (now (kinds .entry)) (now (counts .entry)) (now (arities .entry)) (now (starts .entry)) (now (fields .entry)) (now (nodes .entry)) (now (left .entry)) (now (rows .entry)) (now (nodes .exit)) (now (left .exit)) (now (rows .exit)) r ⌝ }
 {
+    let mut stack = [0u16; 1920];
     let used = s.used;
     let r = simplify(
         bytes,
@@ -187,7 +187,7 @@ fn enter_clause(
         arities,
         starts,
         fields,
-        stack,
+        &mut stack,
         nodes,
         left,
         used,
@@ -198,16 +198,19 @@ fn enter_clause(
     if !has_nodes(s.count, count) {
         return Step::Refused(9);
     }
-    close(nodes, left, used + count);
-    put16(rows, s.clauses, (used % 65536) as u16);
+    let row = s.clauses;
+    let end = used + count;
+    nodes[end] = 0;
+    left[end] = 0;
+    rows[row] = (used % 65536) as u16;
     Step::On(State {
         phase: 2,
         types: s.types,
         ctors: s.ctors,
         fields: s.fields,
         subject: s.subject,
-        clauses: s.clauses + 1,
-        used: used + count + 1,
+        clauses: row + 1,
+        used: end + 1,
         count: s.count + count,
     })
 }
@@ -229,7 +232,7 @@ fn enter_end(s: State) -> State
 }
 
 // How many constructors the last type has.
-fn last_ctors(counts: &[u8], types: usize) -> usize
+fn last_ctors(counts: &[u8; 64], types: usize) -> usize
     ensures { λ r. ⌜ (0 < types → r ≡ getD (now (counts .entry)) (types - 1) 0) ⌝ }
 {
     if types == 0 {
@@ -243,21 +246,18 @@ pub fn enter_line(
     bytes: &[u8],
     at: usize,
     s: State,
-    kinds: &mut [u8],
-    counts: &mut [u8],
-    arities: &mut [u8],
-    starts: &mut [u16],
-    names: &mut [u16],
-    fields: &mut [u8],
-    labels: &mut [u16],
-    stack: &mut [u16],
-    nodes: &mut [u16],
-    left: &mut [u16],
-    rows: &mut [u16],
+    kinds: &mut [u8; 64],
+    counts: &mut [u8; 64],
+    arities: &mut [u8; 2048],
+    starts: &mut [u16; 2048],
+    names: &mut [u16; 2048],
+    fields: &mut [u8; 5120],
+    labels: &mut [u16; 5120],
+    nodes: &mut [u16; 4160],
+    left: &mut [u16; 4160],
+    rows: &mut [u16; 64],
 ) -> Step
     requires { ⌜ Known (held (now bytes) (now kinds) (now counts) (now arities) (now starts) (now names) (now fields) (now labels) (now nodes) (now left) (now rows)) s ⌝ }
-    requires { ⌜ Sized (held (now bytes) (now kinds) (now counts) (now arities) (now starts) (now names) (now fields) (now labels) (now nodes) (now left) (now rows)) ⌝ }
-    requires { ⌜ 1920 ≤ length (now stack) ⌝ }
     requires { ⌜ at < length (now bytes) ⌝ }
     requires { ⌜ length (now bytes) ≤ 24576 ⌝ }
     requires { ⌜ length (now bytes) ≤ at + 640 ⌝ }
@@ -299,7 +299,6 @@ pub fn enter_line(
                     arities,
                     starts,
                     fields,
-                    stack,
                     nodes,
                     left,
                     rows,

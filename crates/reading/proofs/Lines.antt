@@ -2,7 +2,7 @@
 use mathlib.Core.Path.{_≡_, refl, sym, ap, subst, _∙_}
 use mathlib.Core.Bool.{Bool, true, false, cond, _&&_}
 use mathlib.Core.List.{List, [], _∷_, _++_}
-use Prim.Native.Nat.{ℕ, zero, suc, _+_, _*_, _-_, _%_, _≤_, _<_}
+use Prim.Native.Nat.{ℕ, zero, suc, _+_, _*_, _-_, _%_, _≤_, _<_, _^_}
 use native.Mathlib.Omega.{arith}
 use native.Mathlib.Numerals.{add-one}
 use lib.ListN.{length, getD, take, drop, replicate, length-append, take-append-drop, drop-of-length-le}
@@ -37,7 +37,7 @@ abbrev pub grown : Held → List ℕ → Held
 grown h bytes = held bytes (h .kinds) (h .counts) (h .arities) (h .starts) (h .names) (h .fields) (h .labels) (h .nodes) (h .left) (h .rows)
 
 -- lengths do not ask for the bytes
-pub resized : {h : Held} → Sized h → (bytes : List ℕ) → Sized (grown h bytes)
+resized : {h : Held} → Sized h → (bytes : List ℕ) → Sized (grown h bytes)
 resized z bytes = record { kindsLong = z .kindsLong; countsLong = z .countsLong; aritiesLong = z .aritiesLong; startsLong = z .startsLong; namesLong = z .namesLong; fieldsLong = z .fieldsLong; labelsLong = z .labelsLong; nodesLong = z .nodesLong; leftLong = z .leftLong; rowsLong = z .rowsLong }
 
 -- a line that was read, by its answer
@@ -62,6 +62,7 @@ says-grown {h} more w =
       clausesAre = w .clausesAre;
       rowsAre = rows-grown more (w .rowsAre);
       inPhase = w .inPhase;
+      sized = resized (w .sized) (h .bytes ++ more);
     }
 
 -- a line that is not 3 has a byte
@@ -90,7 +91,6 @@ pub record Within (file : List ℕ) (k i at : ℕ) (s : State) (h : Held) : Type
   pub packed : 2 * at ≤ i
   pub inside : i ≤ length file
   pub numbered : k ≤ i + 1
-  pub sized : Sized h
 
 -- nothing is read yet
 pub within-start : (file : List ℕ) → length file ≤ 49152 → (s : State) (bytes kinds counts arities starts names fields labels nodes left rows : List ℕ) → Numbers s 0 0 0 0 0 → labels ≡ replicate 5120 0 → Sized (held bytes kinds counts arities starts names fields labels nodes left rows)
@@ -107,13 +107,13 @@ within-start file l s bytes kinds counts arities starts names fields labels node
         clausesAre = n .clausesAre;
         rowsAre = no-rows _ _ _ _ _ _ _ (n .countIs) (n .usedIs);
         inPhase = tt;
+        sized = resized z (take 0 bytes);
       };
       short = l;
       onward = file-lines file l;
       packed = omega arith;
       inside = omega arith;
       numbered = omega arith;
-      sized = resized z (take 0 bytes);
     }
 
 -- the answer to a line, taken apart
@@ -126,6 +126,10 @@ stopped (goes w) n e = clash (cc)
 stopped (stops m) n e = let i : m ≡ n = cc in ap refuse i
 
 module _ {file : List ℕ} {k i at : ℕ} {s : State} {h : Held} (v : Within file k i at s h) where
+  -- the next line has a number
+  pub next-line : k + 1 < 2 ^ 64
+  next-line = omega (arith, v .numbered, v .inside, v .short)
+
   -- 3
   pub line-bad : {before after : List ℕ} → RefusedLine file i before after → fileOf file ≡ faulty 3 k
   line-bad t = v .onward ∙ ap (parse k (v .state)) (t .begins) ∙ parse-bad k (v .state) (t .line) (t .others) (t .bad)
@@ -153,8 +157,14 @@ module _ {file : List ℕ} {k i at : ℕ} {s : State} {h : Held} (v : Within fil
     pub line-long : length (take to after) ≡ to
     line-long = ap length bytes-are ∙ length-append (h .bytes) line-bytes ∙ omega (arith, before-long, t .reached)
 
-    pub line-some : at < to
+    line-some : at < to
     line-some = omega (arith, t .reached, some-byte (t .digitsOf) (t .good))
+
+    pub line-asks : (at < length (take to after)) × ((length (take to after) ≤ 24576) × (length (take to after) ≤ at + 640))
+    line-asks = (omega (arith, line-long, line-some), (omega (arith, line-long, t .packed, t .inside, v .short), omega (arith, line-long, t .short)))
+
+    pub line-less : length file - next < length file - i
+    line-less = omega (arith, t .onward, t .inside)
 
     pub line-says : Says (grown h (take to after)) s (v .state)
     line-says = rw bytes-are (says-grown line-bytes (v .says))
@@ -166,8 +176,8 @@ module _ {file : List ℕ} {k i at : ℕ} {s : State} {h : Held} (v : Within fil
       pub line-stops : (n : ℕ) → r ≡ Refused n → fileOf file ≡ faulty n k
       line-stops n e = goes-on ∙ ap (λ (y : scope.Step scope.State). goOn k y (λ σ′. parse (suc k) σ′ (lines (drop next file)))) (stopped x n e)
 
-      pub line-goes : (s′ : State) → r ≡ On s′ → Sized h′ → Within file (k + 1) next to s′ h′
-      line-goes s′ e z =
+      pub line-goes : (s′ : State) → r ≡ On s′ → Within file (k + 1) next to s′ h′
+      line-goes s′ e =
           let g = gone x s′ e in
           record {
             state = g .0;
@@ -177,7 +187,6 @@ module _ {file : List ℕ} {k i at : ℕ} {s : State} {h : Held} (v : Within fil
             packed = t .packed;
             inside = t .inside;
             numbered = omega (arith, v .numbered, t .onward);
-            sized = z;
           }
 
   -- the end of the file
@@ -204,7 +213,7 @@ module _ {file : List ℕ} {k i at : ℕ} {s : State} {h : Held} (v : Within fil
         let w : Says (grown h bytes) s (v .state) = subst (λ (l : List ℕ). Says (grown h l) s (v .state)) whole (says-grown (drop at bytes) (v .says)) in
         let g = block-good (lines file) b (sym (file-lines file (v .short)) ∙ is) in
         let few : s .clauses ≤ 64 = omega (arith, w .clausesAre, w .rowsAre .few) in
-        let long : length (take (s .clauses) (h .rows)) ≡ length (b .rows) = length-take-le (s .clauses) (h .rows) (omega (arith, v .sized .rowsLong)) ∙ w .clausesAre in
+        let long : length (take (s .clauses) (h .rows)) ≡ length (b .rows) = length-take-le (s .clauses) (h .rows) (omega (arith, v .says .sized .rowsLong)) ∙ w .clausesAre in
         let row : (j : ℕ) → j < length (b .rows) → RowAt bytes (h .nodes) (h .left) (b .table) (getD (take (s .clauses) (h .rows)) j 0) (getD (b .rows) j []) = λ j l. rw (getD-take (s .clauses) (h .rows) j 0 (omega (arith, w .clausesAre))) (w .rowsAre .each j l) in
         let there : HoldsBlock (grown h bytes) (s .subject) (s .clauses) (s .types) b =
         record {
@@ -212,8 +221,8 @@ module _ {file : List ℕ} {k i at : ℕ} {s : State} {h : Held} (v : Within fil
           fields = s .fields;
           holds = w .holds;
           rowsAre = record {
-            same = v .sized .leftLong ∙ sym (v .sized .nodesLong);
-            short = omega (arith, v .sized .nodesLong);
+            same = v .says .sized .leftLong ∙ sym (v .says .sized .nodesLong);
+            short = omega (arith, v .says .sized .nodesLong);
             many = long;
             each = λ j l. row j l .stands;
           };
@@ -223,7 +232,7 @@ module _ {file : List ℕ} {k i at : ℕ} {s : State} {h : Held} (v : Within fil
           typed = g .typed;
           eachRow = row;
           fewClauses = few;
-          sized = resized (v .sized) bytes;
+          sized = w .sized;
         } in
         saysBlock b is there
 

@@ -12,7 +12,7 @@ use Rattle.order.specs.declared.State.{State}
 use Rattle.order.specs.Phases.{closesIn}
 use Rattle.reading.specs.declared.file.Parsed.{Parsed}
 use Rattle.reading.specs.declared.file.Parsed.the-variants.{Block, Faulty}
-use Rattle.entering.specs.Said.{Held, Sized}
+use Rattle.entering.specs.Said.{Held, held, Sized}
 use Rattle.reading.specs.Files.{Blank, fileOf, endOf, LinesAs, saysBlock, saysFault, ReadAs, aBlock, aFault}
 
 -- 2
@@ -30,31 +30,47 @@ pub end-is : (s : State) (k : ℕ) (b : Bool) → closesIn (s .phase) ≡ b → 
 unfolding endOf
 end-is s k b e = ap (λ (c : Bool). cond c (Block (s .subject) (s .clauses) (s .types)) (Faulty 5 k)) (sym e)
 
--- slices as long as those that have their lengths by the limits
-pub sized-as : {h h′ : Held} → Sized h → length (h′ .kinds) ≡ length (h .kinds) → length (h′ .counts) ≡ length (h .counts) → length (h′ .arities) ≡ length (h .arities) → length (h′ .starts) ≡ length (h .starts) → length (h′ .names) ≡ length (h .names) → length (h′ .fields) ≡ length (h .fields) → length (h′ .labels) ≡ length (h .labels) → length (h′ .nodes) ≡ length (h .nodes) → length (h′ .left) ≡ length (h .left) → length (h′ .rows) ≡ length (h .rows) → Sized h′
-sized-as z a b d e f g i j k l =
-    record {
-      kindsLong = a ∙ z .kindsLong;
-      countsLong = b ∙ z .countsLong;
-      aritiesLong = d ∙ z .aritiesLong;
-      startsLong = e ∙ z .startsLong;
-      namesLong = f ∙ z .namesLong;
-      fieldsLong = g ∙ z .fieldsLong;
-      labelsLong = i ∙ z .labelsLong;
-      nodesLong = j ∙ z .nodesLong;
-      leftLong = k ∙ z .leftLong;
-      rowsLong = l ∙ z .rowsLong;
-    }
+-- zero everywhere, by the length that it has
+zero-long : (n : ℕ) {s : List ℕ} → s ≡ replicate n 0 → length s ≡ n
+zero-long n e = ap length e ∙ length-replicate {A = ℕ} n 0
 
--- cleared, by the length that it has now
-pub zero-now : (s₀ : List ℕ) {s : List ℕ} → s ≡ replicate (length s₀) 0 → s ≡ replicate (length s) 0
-zero-now s₀ e = e ∙ ap (λ (n : ℕ). replicate n 0) (sym (ap length e ∙ length-replicate {A = ℕ} (length s₀) 0))
+zero-now : (n : ℕ) {s : List ℕ} → s ≡ replicate n 0 → s ≡ replicate (length s) 0
+zero-now n e = e ∙ ap (λ (m : ℕ). replicate m 0) (sym (zero-long n e))
+
+-- the lengths, with labels that are zero everywhere
+pub relabelled : {h : Held} → Sized h → Sized (held (h .bytes) (h .kinds) (h .counts) (h .arities) (h .starts) (h .names) (h .fields) (replicate 5120 0) (h .nodes) (h .left) (h .rows))
+relabelled z = record { kindsLong = z .kindsLong; countsLong = z .countsLong; aritiesLong = z .aritiesLong; startsLong = z .startsLong; namesLong = z .namesLong; fieldsLong = z .fieldsLong; labelsLong = length-replicate {A = ℕ} 5120 0; nodesLong = z .nodesLong; leftLong = z .leftLong; rowsLong = z .rowsLong }
 
 -- the answer, by what the lines answered: a block's slices are as they were, a refusal's are blank
 pub block-read : {file : List ℕ} {h : Held} {r : Parsed} (subject clauses types : ℕ) → r ≡ Block subject clauses types → LinesAs file h r → ReadAs file h r
 block-read subject clauses types e (saysBlock b is x) = aBlock b is x
 block-read subject clauses types e (saysFault f) = clash (cc)
 
-pub fault-read : {file : List ℕ} {h h′ : Held} {r : Parsed} (n k : ℕ) → r ≡ Faulty n k → LinesAs file h r → Sized h′ → Blank h′ → ReadAs file h′ r
-fault-read n k e (saysBlock b is x) z o = clash (cc)
-fault-read n k e (saysFault f) z o = aFault f z o
+pub fault-read : {file : List ℕ} {h : Held} {r : Parsed} {bytes kinds counts arities starts names fields labels nodes left rows : List ℕ} (n k : ℕ) → r ≡ Faulty n k → LinesAs file h r → bytes ≡ replicate 24576 0 → (kinds ≡ replicate 64 0) × (counts ≡ replicate 64 0) → (arities ≡ replicate 2048 0) × ((starts ≡ replicate 2048 0) × (names ≡ replicate 2048 0))
+    → (fields ≡ replicate 5120 0) × (labels ≡ replicate 5120 0) → (nodes ≡ replicate 4160 0) × ((left ≡ replicate 4160 0) × (rows ≡ replicate 64 0)) → ReadAs file (held bytes kinds counts arities starts names fields labels nodes left rows) r
+fault-read n k e (saysBlock b is x) z t c f w = clash (cc)
+fault-read n k e (saysFault is) z t c f w =
+    aFault is (record {
+      kindsLong = zero-long 64 (t .0);
+      countsLong = zero-long 64 (t .1);
+      aritiesLong = zero-long 2048 (c .0);
+      startsLong = zero-long 2048 (c .1 .0);
+      namesLong = zero-long 2048 (c .1 .1);
+      fieldsLong = zero-long 5120 (f .0);
+      labelsLong = zero-long 5120 (f .1);
+      nodesLong = zero-long 4160 (w .0);
+      leftLong = zero-long 4160 (w .1 .0);
+      rowsLong = zero-long 64 (w .1 .1);
+    }) (record {
+      bytesZero = zero-now 24576 z;
+      kindsZero = zero-now 64 (t .0);
+      countsZero = zero-now 64 (t .1);
+      aritiesZero = zero-now 2048 (c .0);
+      startsZero = zero-now 2048 (c .1 .0);
+      namesZero = zero-now 2048 (c .1 .1);
+      fieldsZero = zero-now 5120 (f .0);
+      labelsZero = zero-now 5120 (f .1);
+      nodesZero = zero-now 4160 (w .0);
+      leftZero = zero-now 4160 (w .1 .0);
+      rowsZero = zero-now 64 (w .1 .1);
+    })

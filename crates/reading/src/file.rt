@@ -1,6 +1,4 @@
 // A file: 2, then its lines, one step each.
-use cells::clear;
-use cells::clear8;
 use clearing::clear_ctors;
 use clearing::clear_fields;
 use clearing::clear_rows;
@@ -49,22 +47,20 @@ fn ended(s: State, k: usize) -> Parsed
 fn read_lines(
     file: &[u8],
     bytes: &mut [u8],
-    kinds: &mut [u8],
-    counts: &mut [u8],
-    arities: &mut [u8],
-    starts: &mut [u16],
-    names: &mut [u16],
-    fields: &mut [u8],
-    labels: &mut [u16],
-    stack: &mut [u16],
-    nodes: &mut [u16],
-    left: &mut [u16],
-    rows: &mut [u16],
+    kinds: &mut [u8; 64],
+    counts: &mut [u8; 64],
+    arities: &mut [u8; 2048],
+    starts: &mut [u16; 2048],
+    names: &mut [u16; 2048],
+    fields: &mut [u8; 5120],
+    labels: &mut [u16; 5120],
+    nodes: &mut [u16; 4160],
+    left: &mut [u16; 4160],
+    rows: &mut [u16; 64],
 ) -> Parsed
     requires { ⌜ 24576 ≤ length (now bytes) ⌝ }
     requires { ⌜ Sized (held (now bytes) (now kinds) (now counts) (now arities) (now starts) (now names) (now fields) (now labels) (now nodes) (now left) (now rows)) ⌝ }
     requires { ⌜ now labels ≡ replicate 5120 0 ⌝ }
-    requires { ⌜ 1920 ≤ length (now stack) ⌝ }
     ensures { λ r. ⌜ LinesAs (now (file .entry)) (held (now (bytes .exit)) (now (kinds .exit)) (now (counts .exit)) (now (arities .exit)) (now (starts .exit)) (now (names .exit)) (now (fields .exit)) (now (labels .exit)) (now (nodes .exit)) (now (left .exit)) (now (rows .exit))) r ⌝ }
 {
     if is_long(file.len()) {
@@ -90,7 +86,6 @@ fn read_lines(
             names,
             fields,
             labels,
-            stack,
             nodes,
             left,
             rows,
@@ -113,26 +108,23 @@ fn read_lines(
 // The block that a file says, in the slices, or the refusal and its line, and the slices zero.
 pub fn read(
     file: &[u8],
-    bytes: &mut [u8],
-    kinds: &mut [u8],
-    counts: &mut [u8],
-    arities: &mut [u8],
-    starts: &mut [u16],
-    names: &mut [u16],
-    fields: &mut [u8],
-    labels: &mut [u16],
-    stack: &mut [u16],
-    nodes: &mut [u16],
-    left: &mut [u16],
-    rows: &mut [u16],
+    bytes: &mut [u8; 24576],
+    kinds: &mut [u8; 64],
+    counts: &mut [u8; 64],
+    arities: &mut [u8; 2048],
+    starts: &mut [u16; 2048],
+    names: &mut [u16; 2048],
+    fields: &mut [u8; 5120],
+    labels: &mut [u16; 5120],
+    nodes: &mut [u16; 4160],
+    left: &mut [u16; 4160],
+    rows: &mut [u16; 64],
 ) -> Parsed
     requires { ⌜ 24576 ≤ length (now bytes) ⌝ }
     requires { ⌜ Sized (held (now bytes) (now kinds) (now counts) (now arities) (now starts) (now names) (now fields) (now labels) (now nodes) (now left) (now rows)) ⌝ }
-    requires { ⌜ 1920 ≤ length (now stack) ⌝ }
     ensures { λ r. ⌜ ReadAs (now (file .entry)) (held (now (bytes .exit)) (now (kinds .exit)) (now (counts .exit)) (now (arities .exit)) (now (starts .exit)) (now (names .exit)) (now (fields .exit)) (now (labels .exit)) (now (nodes .exit)) (now (left .exit)) (now (rows .exit))) r ⌝ }
-    ensures { λ _. ⌜ now (stack .exit) ≡ replicate (length (now (stack .entry))) 0 ⌝ }
 {
-    clear(labels);
+    *labels = [0; 5120];
     let r = read_lines(
         file,
         bytes,
@@ -143,16 +135,14 @@ pub fn read(
         names,
         fields,
         labels,
-        stack,
         nodes,
         left,
         rows,
     );
-    clear(stack);
     let Parsed::Faulty { .. } = r else {
         return r;
     };
-    clear8(bytes);
+    *bytes = [0; 24576];
     clear_types(kinds, counts);
     clear_ctors(arities, starts, names);
     clear_fields(fields, labels);

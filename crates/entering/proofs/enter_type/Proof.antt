@@ -6,48 +6,19 @@ use Rattle.entering.proofs.enter_type.Statement.{statement}
 use Rattle.entering.proofs.enter_type.Tie as tie
 
 add-type-requires : tie.Need-add-type-requires
-add-type-requires c κs = search needs
+add-type-requires c κs =
+    c .before .before .before .before .before .before .pre
 
 at8-requires : tie.Need-at8-requires
 at8-requires c κs = search needs
 
-same-length : tie.Need-same-length
-same-length c = search needs
-
-same-length-2 : tie.Need-same-length-2
-same-length-2 c = search needs
-
-same-length-3 : tie.Need-same-length-3
-same-length-3 c = search needs
-
-same-length-4 : tie.Need-same-length-4
-same-length-4 c = search needs
-
-same-length-5 : tie.Need-same-length-5
-same-length-5 c = search needs
-
 returns : tie.Need-returns
 returns c =
-    record { numbers = record { phaseIs = sym (type-phase-is _ _ (c .before .at8 .ensures) .0 (c .if1 .taken)); typesAre = c .before .before .before .before .before .before .before .before .before .before .before .before .add-type .ensures .0; ctorsAre = c .before .before .before .before .before .before .before .before .before .before .before .before .add-type .ensures .1 .0; fieldsAre = c .before .before .before .before .before .before .before .before .before .before .before .before .add-type .ensures .1 .1 .0; subjectIs = refl; clausesAre = refl; usedIs = refl; countIs = refl }; with = c .before .before .before .before .before .before .before .before .before .before .before .before .add-type .ensures .1 .1 .1 }
-
-same-length-6 : tie.Need-same-length-6
-same-length-6 c = search needs
-
-same-length-7 : tie.Need-same-length-7
-same-length-7 c = search needs
-
-same-length-8 : tie.Need-same-length-8
-same-length-8 c = search needs
-
-same-length-9 : tie.Need-same-length-9
-same-length-9 c = search needs
-
-same-length-10 : tie.Need-same-length-10
-same-length-10 c = search needs
+    record { numbers = record { phaseIs = sym (type-phase-is _ _ (c .before .at8 .ensures) .0 (c .if1 .taken)); typesAre = c .before .before .add-type .ensures .0; ctorsAre = c .before .before .add-type .ensures .1 .0; fieldsAre = c .before .before .add-type .ensures .1 .1 .0; subjectIs = refl; clausesAre = refl; usedIs = refl; countIs = refl }; with = c .before .before .add-type .ensures .1 .1 .1 }
 
 returns-2 : tie.Need-returns-2
 returns-2 c =
-    record { numbers = record { phaseIs = sym (type-phase-is _ _ (c .before .at8 .ensures) .1 (c .if1 .left)); typesAre = c .before .before .before .before .before .before .before .before .before .before .before .before .add-type .ensures .0; ctorsAre = c .before .before .before .before .before .before .before .before .before .before .before .before .add-type .ensures .1 .0; fieldsAre = c .before .before .before .before .before .before .before .before .before .before .before .before .add-type .ensures .1 .1 .0; subjectIs = refl; clausesAre = refl; usedIs = refl; countIs = refl }; with = c .before .before .before .before .before .before .before .before .before .before .before .before .add-type .ensures .1 .1 .1 }
+    record { numbers = record { phaseIs = sym (type-phase-is _ _ (c .before .at8 .ensures) .1 (c .if1 .left)); typesAre = c .before .before .add-type .ensures .0; ctorsAre = c .before .before .add-type .ensures .1 .0; fieldsAre = c .before .before .add-type .ensures .1 .1 .0; subjectIs = refl; clausesAre = refl; usedIs = refl; countIs = refl }; with = c .before .before .add-type .ensures .1 .1 .1 }
 
 pub enter-type-spec : {M : Type 1} → statement M
 enter-type-spec =
@@ -55,15 +26,5 @@ enter-type-spec =
     (tie.spec
     add-type-requires
     at8-requires
-    same-length
-    same-length-2
-    same-length-3
-    same-length-4
-    same-length-5
     returns
-    same-length-6
-    same-length-7
-    same-length-8
-    same-length-9
-    same-length-10
     returns-2)
