@@ -5,34 +5,31 @@ use Rattle.replay.proofs.read_number.Statement.{statement}
 use Rattle.replay.proofs.read_number.Tie as tie
 
 abbrev Inv-loop : tie.InvT-loop
-Inv-loop n₀ i₀ n i = n < 1000000
+Inv-loop value₀ digits₀ value digits = value < 1000000
 
 abbrev μ-loop : tie.MeasureT-loop
-μ-loop n₀ i₀ n i = 7 - i
+μ-loop value₀ digits₀ value digits = 7 - digits
 
 loop-holds : tie.Need-loop-holds Inv-loop μ-loop
 loop-holds c = search needs
 
 next-requires : tie.Need-next-requires Inv-loop μ-loop
-next-requires c κs = search needs
-
-ended-requires : tie.Need-ended-requires Inv-loop μ-loop
-ended-requires c κs = search needs
+next-requires c κs = tt
 
 returns : tie.Need-returns Inv-loop μ-loop
-returns c = search needs
-
-ended-requires-2 : tie.Need-ended-requires-2 Inv-loop μ-loop
-ended-requires-2 c κs = search needs
+returns c = tt
 
 returns-2 : tie.Need-returns-2 Inv-loop μ-loop
-returns-2 c = search needs
+returns-2 c = tt
 
-with-digit-requires : tie.Need-with-digit-requires Inv-loop μ-loop
-with-digit-requires c κs = search needs
+mul-value : tie.Need-mul-value Inv-loop μ-loop
+mul-value c = search needs
 
-add-i : tie.Need-add-i Inv-loop μ-loop
-add-i c = search needs
+add-value : tie.Need-add-value Inv-loop μ-loop
+add-value c = search needs
+
+add-digits : tie.Need-add-digits Inv-loop μ-loop
+add-digits c = search needs
 
 loop-less : tie.Need-loop-less Inv-loop μ-loop
 loop-less c = search needs
@@ -41,7 +38,7 @@ loop-again : tie.Need-loop-again Inv-loop μ-loop
 loop-again c = search needs
 
 returns-3 : tie.Need-returns-3 Inv-loop μ-loop
-returns-3 c = search needs
+returns-3 c = tt
 
 pub read-number-spec : {M : Type 1} → statement M
 read-number-spec =
@@ -51,12 +48,11 @@ read-number-spec =
     μ-loop
     loop-holds
     next-requires
-    ended-requires
     returns
-    ended-requires-2
     returns-2
-    with-digit-requires
-    add-i
+    mul-value
+    add-value
+    add-digits
     loop-less
     loop-again
     returns-3)

@@ -6,23 +6,23 @@ use Rattle.replay.proofs.write_first.Statement.{statement}
 use Rattle.replay.proofs.write_first.Tie as tie
 
 print-decimal-requires : tie.Need-print-decimal-requires
-print-decimal-requires c κs = search needs
+print-decimal-requires c κs = tt
 
 slice-aggregate-write-all : tie.Need-slice-aggregate-write-all
 slice-aggregate-write-all c = search needs
 
 write-all-requires : tie.Need-write-all-requires
-write-all-requires c κs = search needs
+write-all-requires c κs = tt
 
 slice-aggregate-write-all-2 : tie.Need-slice-aggregate-write-all-2
 slice-aggregate-write-all-2 c =
-    (sym (length-take-le (c .before .before .before .before .before .before .before .args .m) (c .before .before .before .before .before .before .before .args .report .now) (c .before .before .before .before .before .before .before .pre)))
+    sym (length-take-le (c .before .before .before .before .before .args .m) (c .before .before .before .before .before .args .report .now) (c .before .before .before .before .before .pre))
 
 write-all-requires-2 : tie.Need-write-all-requires-2
-write-all-requires-2 c κs = search needs
+write-all-requires-2 c κs = tt
 
 returns : tie.Need-returns
-returns c = search needs
+returns c = tt
 
 pub write-first-spec : {M : Type 1} → statement M
 write-first-spec =

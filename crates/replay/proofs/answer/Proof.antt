@@ -1,0 +1,117 @@
+-- `replay::answer` meets its contract: each part is as long as was asked.
+use mathlib.Core.Path.{_≡_, sym, _∙_}
+use mathlib.Core.List.{List, _++_}
+use native.Mathlib.Omega.{arith}
+use Prim.Native.Nat.{ℕ, _≤_}
+use lib.ListN.{length, take, drop, replicate, length-append, length-drop, length-replicate}
+use lib.Seq.{length-take-le}
+use borrow.Author.Needs.{needs}
+use Rattle.replay.proofs.answer.Statement.{statement}
+use Rattle.replay.proofs.answer.Tie as tie
+
+module _ (k n : ℕ) (l : k ≤ n) where
+  -- k of n zeros
+  among : k ≤ length (replicate {A = ℕ} n 0)
+  among = omega (arith, length-replicate {A = ℕ} n 0)
+
+  front : k ≡ length (take k (replicate {A = ℕ} n 0))
+  front = sym (length-take-le k (replicate n 0) among)
+
+  -- and what was written over them
+  module _ (xs : List ℕ) (e : length xs ≡ length (take k (replicate {A = ℕ} n 0))) where
+    written : (m : ℕ) → m ≤ k → m ≤ length (xs ++ drop k (replicate {A = ℕ} n 0))
+    written m h = omega (arith, length-append xs (drop k (replicate {A = ℕ} n 0)), front)
+
+    part : k ≡ length (take k (xs ++ drop k (replicate {A = ℕ} n 0)))
+    part = sym (length-take-le k (xs ++ drop k (replicate {A = ℕ} n 0)) (written k (omega arith)))
+
+    whole : n ≡ length (xs ++ drop k (replicate {A = ℕ} n 0))
+    whole = omega (arith, length-append xs (drop k (replicate {A = ℕ} n 0)), length-drop k (replicate {A = ℕ} n 0), length-replicate {A = ℕ} n 0, front)
+
+least-requires : tie.Need-least-requires
+least-requires c κs = tt
+
+array-borrow-prefix-file : tie.Need-array-borrow-prefix-file
+array-borrow-prefix-file c =
+    among (c .least .result) 49153 (c .least .ensures .1)
+
+slice-aggregate-read-full : tie.Need-slice-aggregate-read-full
+slice-aggregate-read-full c =
+    front (c .before .least .result) 49153 (c .before .least .ensures .1)
+
+read-full-requires : tie.Need-read-full-requires
+read-full-requires c κs = tt
+
+returns : tie.Need-returns
+returns c = tt
+
+sub-skip : tie.Need-sub-skip
+sub-skip c =
+    c .before .before .before .before .least .ensures .0
+
+skip-requires : tie.Need-skip-requires
+skip-requires c κs = tt
+
+array-share-prefix-file : tie.Need-array-share-prefix-file
+array-share-prefix-file c =
+    written (c .before .before .before .before .before .least .result) 49153 (c .before .before .before .before .before .least .ensures .1) (c .before .before .before .read-full .last .1 .0) (c .before .before .before .read-full .kept .1 .0) (c .before .before .before .before .before .least .result) (omega arith)
+
+slice-aggregate-print : tie.Need-slice-aggregate-print
+slice-aggregate-print c =
+    part (c .before .before .before .before .before .before .least .result) 49153 (c .before .before .before .before .before .before .least .ensures .1) (c .before .before .before .before .read-full .last .1 .0) (c .before .before .before .before .read-full .kept .1 .0)
+
+array-borrow-prefix-scratch : tie.Need-array-borrow-prefix-scratch
+array-borrow-prefix-scratch c =
+    among (c .before .before .before .before .before .before .before .args .cells) 16384 (c .before .before .before .before .before .before .before .pre .0)
+
+slice-aggregate-print-2 : tie.Need-slice-aggregate-print-2
+slice-aggregate-print-2 c =
+    front (c .before .before .before .before .before .before .before .before .args .cells) 16384 (c .before .before .before .before .before .before .before .before .pre .0)
+
+array-borrow-prefix-report : tie.Need-array-borrow-prefix-report
+array-borrow-prefix-report c =
+    among (c .before .before .before .before .before .before .before .before .args .room) 32768 (c .before .before .before .before .before .before .before .before .pre .1)
+
+slice-aggregate-print-3 : tie.Need-slice-aggregate-print-3
+slice-aggregate-print-3 c =
+    front (c .before .before .before .before .before .before .before .before .before .args .room) 32768 (c .before .before .before .before .before .before .before .before .before .pre .1)
+
+print-requires : tie.Need-print-requires
+print-requires c κs = tt
+
+slice-aggregate-write-first : tie.Need-slice-aggregate-write-first
+slice-aggregate-write-first c =
+    whole (c .before .before .before .before .before .before .before .before .before .before .before .before .before .args .room) 32768 (c .before .before .before .before .before .before .before .before .before .before .before .before .before .pre .1) (c .before .before .before .print .last .1 .1 .0) (c .before .before .before .print .kept .1 .1 .0)
+
+least-requires-2 : tie.Need-least-requires-2
+least-requires-2 c κs = tt
+
+write-first-requires : tie.Need-write-first-requires
+write-first-requires c κs =
+    written (c .before .before .before .before .before .before .before .before .before .before .before .before .before .before .args .room) 32768 (c .before .before .before .before .before .before .before .before .before .before .before .before .before .before .pre .1) (c .before .before .before .before .print .last .1 .1 .0) (c .before .before .before .before .print .kept .1 .1 .0) (c .least2 .result) (c .least2 .ensures .1)
+
+returns-2 : tie.Need-returns-2
+returns-2 c = tt
+
+pub answer-spec : {M : Type 1} → statement M
+answer-spec =
+    tie.close
+    (tie.spec
+    least-requires
+    array-borrow-prefix-file
+    slice-aggregate-read-full
+    read-full-requires
+    returns
+    sub-skip
+    skip-requires
+    array-share-prefix-file
+    slice-aggregate-print
+    array-borrow-prefix-scratch
+    slice-aggregate-print-2
+    array-borrow-prefix-report
+    slice-aggregate-print-3
+    print-requires
+    slice-aggregate-write-first
+    least-requires-2
+    write-first-requires
+    returns-2)
