@@ -64,13 +64,3 @@ pub fn clear(s: &mut [u16])
         i = put16(s, i, 0);
     }
 }
-
-// Zero everywhere, for bytes.
-pub fn clear8(s: &mut [u8])
-    ensures { λ _. ⌜ now (s .exit) ≡ replicate (length (now (s .entry))) 0 ⌝ }
-{
-    let mut i = 0;
-    while i < s.len() {
-        i = put8(s, i, 0);
-    }
-}

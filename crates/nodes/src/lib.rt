@@ -7,7 +7,7 @@ use cells::wide16;
 ghost use mathlib.Core.Path.{_≡_};
 ghost use mathlib.Core.List.{map};
 ghost use Prim.Native.Nat.{_+_, _-_, _≤_, _<_, _^_};
-ghost use lib.ListN.{length, take, drop, set, replicate};
+ghost use lib.ListN.{length, take, drop, replicate};
 ghost use lib.Seq.{sets};
 ghost use Rattle.nodes.specs.Keys.{low16, keyOf};
 ghost use Rattle.nodes.specs.Lefts.{arityOf, leftsOf};
@@ -78,14 +78,4 @@ pub fn count_left(arities: &[u8], nodes: &[u16], left: &mut [u16], used: usize, 
         more = less(more, arity(arities, at16(nodes, used + i)));
         i += 1;
     }
-}
-
-// The terminator of a row.
-pub fn close(nodes: &mut [u16], left: &mut [u16], at: usize)
-    requires { ⌜ at + 1 < 2 ^ 64 ⌝ }
-    ensures { λ _. ⌜ now (nodes .exit) ≡ set (now (nodes .entry)) at 0 ⌝ }
-    ensures { λ _. ⌜ now (left .exit) ≡ set (now (left .entry)) at 0 ⌝ }
-{
-    put16(nodes, at, 0);
-    put16(left, at, 0);
 }
