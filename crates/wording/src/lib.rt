@@ -50,10 +50,8 @@ pub fn calls_line(first: usize, second: usize, out: &mut [u8], at: usize) -> usi
     requires { ⌜ at + 64 < 2 ^ 62 ⌝ }
     ensures { λ r. ⌜ Wrote (now (out .entry)) (now (out .exit)) at r (lineOf (text "calls " ++ decimalText first ++ text " " ++ decimalText second)) ⌝ }
 {
-    let calls = *b"calls ";
-    let space = *b" ";
-    let next = numbered(out, at, &calls, first);
-    ended(out, next, &space, second)
+    let next = numbered(out, at, b"calls ", first);
+    ended(out, next, b" ", second)
 }
 
 // What is printed for a refusal: its number and its line.
@@ -62,8 +60,6 @@ pub fn refusal(number: u8, line: usize, out: &mut [u8], at: usize) -> usize
     ensures { λ r. ⌜ Wrote (now (out .entry)) (now (out .exit)) at r (text "refused " ++ decimalText number ++ text " line " ++ decimalText line ++ text "\n") ⌝ }
     ensures { λ r. ⌜ r ≤ at + 64 ⌝ }
 {
-    let refused = *b"refused ";
-    let word = *b" line ";
-    let next = numbered(out, at, &refused, wide8(number));
-    ended(out, next, &word, line)
+    let next = numbered(out, at, b"refused ", wide8(number));
+    ended(out, next, b" line ", line)
 }

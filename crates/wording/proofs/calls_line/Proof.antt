@@ -14,7 +14,7 @@ slice-aggregate-numbered c =
 
 numbered-requires : tie.Need-numbered-requires
 numbered-requires c κs =
-    omega (arith, c .before .before .before .before .before .before .before .pre)
+    omega (arith, c .before .before .before .pre)
 
 slice-aggregate-ended : tie.Need-slice-aggregate-ended
 slice-aggregate-ended c =
@@ -22,7 +22,7 @@ slice-aggregate-ended c =
 
 ended-requires : tie.Need-ended-requires
 ended-requires c κs =
-    omega (arith, c .before .before .before .before .before .before .before .before .before .before .before .before .pre, c .before .before .before .before .numbered .ensures .1)
+    omega (arith, c .before .before .before .before .before .before .before .before .pre, c .before .before .before .before .numbered .ensures .1)
 
 same-length : tie.Need-same-length
 same-length c =
@@ -30,7 +30,7 @@ same-length c =
 
 returns : tie.Need-returns
 returns c =
-    then-ended (bytes "calls " ++ decimal (c .before .before .before .before .before .before .before .before .before .before .before .before .before .before .before .args .first)) (bytes " ") (decimal (c .before .before .before .before .before .before .before .before .before .before .before .before .before .before .before .args .second)) (c .before .before .before .before .before .before .before .numbered .ensures .0) (c .before .before .ended .ensures .0)
+    then-ended (bytes "calls " ++ decimal (c .before .before .before .before .before .before .before .before .before .before .before .args .first)) (bytes " ") (decimal (c .before .before .before .before .before .before .before .before .before .before .before .args .second)) (c .before .before .before .before .before .before .before .numbered .ensures .0) (c .before .before .ended .ensures .0)
 
 pub calls-line-spec : {M : Type 1} → statement M
 calls-line-spec =

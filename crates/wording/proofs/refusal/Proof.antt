@@ -20,7 +20,7 @@ wide8-requires c κs =
 
 numbered-requires : tie.Need-numbered-requires
 numbered-requires c κs =
-    omega (arith, c .before .before .before .before .before .before .before .before .pre)
+    omega (arith, c .before .before .before .before .pre)
 
 slice-aggregate-ended : tie.Need-slice-aggregate-ended
 slice-aggregate-ended c =
@@ -28,7 +28,7 @@ slice-aggregate-ended c =
 
 ended-requires : tie.Need-ended-requires
 ended-requires c κs =
-    omega (arith, c .before .before .before .before .before .before .before .before .before .before .before .before .before .pre, c .before .before .before .before .numbered .ensures .1)
+    omega (arith, c .before .before .before .before .before .before .before .before .before .pre, c .before .before .before .before .numbered .ensures .1)
 
 same-length : tie.Need-same-length
 same-length c =
@@ -36,7 +36,7 @@ same-length c =
 
 returns : tie.Need-returns
 returns c =
-    (then-ended (bytes "refused " ++ decimal (c .before .before .before .before .before .before .before .before .before .before .before .before .before .before .before .before .args .number)) (bytes " line ") (decimal (c .before .before .before .before .before .before .before .before .before .before .before .before .before .before .before .before .args .line)) (wrote-as (ap (λ (n : ℕ). bytes "refused " ++ decimal n) (c .before .before .before .before .before .before .before .before .wide8 .ensures)) (c .before .before .before .before .before .before .before .numbered .ensures .0)) (c .before .before .ended .ensures .0), omega (arith, c .before .before .before .before .before .before .before .numbered .ensures .1, c .before .before .ended .ensures .1))
+    (then-ended (bytes "refused " ++ decimal (c .before .before .before .before .before .before .before .before .before .before .before .before .args .number)) (bytes " line ") (decimal (c .before .before .before .before .before .before .before .before .before .before .before .before .args .line)) (wrote-as (ap (λ (n : ℕ). bytes "refused " ++ decimal n) (c .before .before .before .before .before .before .before .before .wide8 .ensures)) (c .before .before .before .before .before .before .before .numbered .ensures .0)) (c .before .before .ended .ensures .0), omega (arith, c .before .before .before .before .before .before .before .numbered .ensures .1, c .before .before .ended .ensures .1))
 
 pub refusal-spec : {M : Type 1} → statement M
 refusal-spec =
