@@ -74,9 +74,8 @@ pub fn look(paste: bool, bytes: &[u8], kinds: &[u8], names: &[u16], i: usize) ->
         return look_by_kind(at8(kinds, i / 32), i % 32);
     }
     let fixed = names::fixed_names();
-    let cons = *b"::";
     let tuple = names::tuple_name();
-    look_by_name(ctor_name(&fixed, bytes, kinds, names, i), &cons, &tuple)
+    look_by_name(ctor_name(&fixed, bytes, kinds, names, i), b"::", &tuple)
 }
 
 // The name of the constructor with the number i, written.
@@ -113,6 +112,5 @@ pub fn put_label(
     if at16(nodes, p) == 0 {
         return next;
     }
-    let colon = *b": ";
-    all(out, next, &colon)
+    all(out, next, b": ")
 }

@@ -43,8 +43,8 @@ look-by-name-requires c κs = search needs
 
 returns-2 : tie.Need-returns-2
 returns-2 c =
-    let a = c .before .before .before .before .before .before .before .before .before .before .before .before .before .args in
-    c .look-by-name .ensures ∙ ap lookOf (look-source (a .bytes .now) (getD (a .kinds .now) (a .i / 32) 0) (a .i % 32) (getD (a .names .now) (a .i) 0) (a .paste) (c .before .before .before .ctor-name .result .now) (c .before .before .before .before .before .before .before .before .before .if1 .left) (c .before .before .before .ctor-name .ensures .0))
+    let a = c .before .before .before .before .before .before .before .before .before .before .before .args in
+    c .look-by-name .ensures ∙ ap lookOf (look-source (a .bytes .now) (getD (a .kinds .now) (a .i / 32) 0) (a .i % 32) (getD (a .names .now) (a .i) 0) (a .paste) (c .before .before .before .ctor-name .result .now) (c .before .before .before .before .before .before .before .if1 .left) (c .before .before .before .ctor-name .ensures .0))
 
 pub look-spec : {M : Type 1} → statement M
 look-spec =

@@ -39,8 +39,8 @@ same-length-2 c = search needs
 
 returns-2 : tie.Need-returns-2
 returns-2 c =
-    let a = c .before .before .before .before .before .before .before .before .before .before .before .before .before .before .before .before .before .args in
-    (wrote-as (ap (λ (t : Text). t ++ bytes ": ") (c .before .before .before .before .before .before .before .before .before .before .before .before .name-at .ensures .0) ∙ label-colon (textAt (a .bytes .now) (a .label)) (getD (a .nodes .now) (a .p) 0) (λ e. c .before .before .before .before .before .before .before .if1 .left (c .before .before .before .before .before .before .before .before .at16 .ensures ∙ e))) (wrote-more (c .before .before .before .before .before .before .before .before .before .before .before .all .ensures) (c .before .before .all2 .ensures)), omega (arith, c .before .before .before .before .before .before .before .before .before .before .before .before .name-at .ensures .1, c .before .before .before .before .before .before .before .before .before .before .before .all .ensures .ends, c .before .before .all2 .ensures .ends))
+    let a = c .before .before .before .before .before .before .before .before .before .before .before .before .before .before .before .args in
+    (wrote-as (ap (λ (t : Text). t ++ bytes ": ") (c .before .before .before .before .before .before .before .before .before .before .name-at .ensures .0) ∙ label-colon (textAt (a .bytes .now) (a .label)) (getD (a .nodes .now) (a .p) 0) (λ e. c .before .before .before .before .before .if1 .left (c .before .before .before .before .before .before .at16 .ensures ∙ e))) (wrote-more (c .before .before .before .before .before .before .before .before .before .all .ensures) (c .before .before .all2 .ensures)), omega (arith, c .before .before .before .before .before .before .before .before .before .before .name-at .ensures .1, c .before .before .before .before .before .before .before .before .before .all .ensures .ends, c .before .before .all2 .ensures .ends))
 
 pub put-label-spec : {M : Type 1} → statement M
 put-label-spec =
