@@ -1,4 +1,4 @@
--- The loop of `read`: what is put so far stands in front of what the definition makes of the pending items and the patterns left, round by round.
+-- The loop of `simplify`: what is put so far stands in front of what the definition makes of the pending items and the patterns left, round by round.
 use mathlib.Core.Path.{_≡_, refl, sym, ap, ap₂, subst, _∙_}
 use mathlib.Core.List.{List, [], _∷_, _++_, append-assoc, append-nil}
 use mathlib.Core.Option.{Option, none, some}

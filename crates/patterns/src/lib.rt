@@ -15,7 +15,7 @@ ghost use mathlib.Core.Path.{_≡_};
 ghost use Prim.Native.Nat.{_+_, _*_, _≤_, _<_, _^_};
 ghost use lib.ListN.{length};
 ghost use Rattle.suits.specs.Raws.{sizeOf, sizeAt};
-ghost use Rattle.patterns.specs.Rows.{Ready, Turned, Reading, Simplifies};
+ghost use Rattle.patterns.specs.Rows.{Ready, Turned, Simplifies};
 
 pub enum Simplified {
     Row { count: usize },
@@ -86,8 +86,9 @@ fn turn(
     }
 }
 
-// The nodes of the pattern from `from` on, read at the subject's type, put from `used` on.
-fn read(
+// The pattern at `from`, read at the subject's type, as a row of nodes from `used` on, with `left` beside it; where it
+// has more nodes than there is room for, they are counted.
+pub fn simplify(
     bytes: &[u8],
     from: usize,
     subject: usize,
@@ -98,10 +99,11 @@ fn read(
     fields: &[u8],
     stack: &mut [u16],
     nodes: &mut [u16],
+    left: &mut [u16],
     used: usize,
 ) -> Simplified
     requires { ⌜ Ready (now bytes) from subject (now fields) (now stack) (now nodes) used ⌝ }
-    ensures { λ r. ⌜ Reading (now (bytes .entry)) from (now (kinds .entry)) (now (counts .entry)) (now (arities .entry)) (now (starts .entry)) (now (fields .entry)) subject used (now (nodes .entry)) (now (nodes .exit)) r ⌝ }
+    ensures { λ r. ⌜ Simplifies (now (bytes .entry)) from (now (kinds .entry)) (now (counts .entry)) (now (arities .entry)) (now (starts .entry)) (now (fields .entry)) subject used (now (nodes .entry)) (now (left .entry)) (now (nodes .exit)) (now (left .exit)) r ⌝ }
 {
     let mut at = from;
     let mut t = subject;
@@ -122,65 +124,28 @@ fn read(
             nodes,
             place,
         );
-        at = after(bytes, at);
         match next {
             Next::Wrong => {
                 return Simplified::Unsuited;
             }
             Next::Done { place: end } => {
-                return Simplified::Row { count: end - used };
+                let count = end - used;
+                if nodes.len() - used < count {
+                    return Simplified::Row { count };
+                }
+                count_left(arities, nodes, left, used, count);
+                return Simplified::Row { count };
             }
             Next::Read {
                 t: new,
                 depth: high,
                 place: end,
             } => {
+                at = after(bytes, at);
                 t = new;
                 depth = high;
                 place = end;
             }
         }
     }
-}
-
-// The pattern at `from`, read at the subject's type, as a row of nodes from `used` on, with `left` beside it; where it
-// has more nodes than there is room for, they are counted.
-pub fn simplify(
-    bytes: &[u8],
-    from: usize,
-    subject: usize,
-    kinds: &[u8],
-    counts: &[u8],
-    arities: &[u8],
-    starts: &[u16],
-    fields: &[u8],
-    stack: &mut [u16],
-    nodes: &mut [u16],
-    left: &mut [u16],
-    used: usize,
-) -> Simplified
-    requires { ⌜ Ready (now bytes) from subject (now fields) (now stack) (now nodes) used ⌝ }
-    ensures { λ r. ⌜ Simplifies (now (bytes .entry)) from (now (kinds .entry)) (now (counts .entry)) (now (arities .entry)) (now (starts .entry)) (now (fields .entry)) subject used (now (nodes .entry)) (now (left .entry)) (now (nodes .exit)) (now (left .exit)) r ⌝ }
-{
-    let r = read(
-        bytes,
-        from,
-        subject,
-        kinds,
-        counts,
-        arities,
-        starts,
-        fields,
-        stack,
-        nodes,
-        used,
-    );
-    let Simplified::Row { count } = r else {
-        return Simplified::Unsuited;
-    };
-    if nodes.len() - used < count {
-        return Simplified::Row { count };
-    }
-    count_left(arities, nodes, left, used, count);
-    Simplified::Row { count }
 }
