@@ -19,8 +19,7 @@ pub fn comma(out: &mut [u8], at: usize) -> usize
     requires { ⌜ at + 2 < 2 ^ 64 ⌝ }
     ensures { λ r. ⌜ Wrote (now (out .entry)) (now (out .exit)) at r (text ", ") ⌝ }
 {
-    let comma = *b", ";
-    all(out, at, &comma)
+    all(out, at, b", ")
 }
 
 // A wildcard as the tail of a list.
@@ -28,8 +27,7 @@ pub fn dots(out: &mut [u8], at: usize) -> usize
     requires { ⌜ at + 2 < 2 ^ 64 ⌝ }
     ensures { λ r. ⌜ Wrote (now (out .entry)) (now (out .exit)) at r (text "..") ⌝ }
 {
-    let dots = *b"..";
-    all(out, at, &dots)
+    all(out, at, b"..")
 }
 
 // The bracket before a constructor's arguments.
@@ -38,9 +36,7 @@ pub fn put_open(labelled: bool, out: &mut [u8], at: usize) -> usize
     ensures { λ r. ⌜ Wrote (now (out .entry)) (now (out .exit)) at r (openText labelled) ⌝ }
     ensures { λ r. ⌜ r ≤ at + 4 ⌝ }
 {
-    let brace = *b" { ";
-    let round = *b"(";
-    either(labelled, out, at, &brace, &round)
+    either(labelled, out, at, b" { ", b"(")
 }
 
 // The bracket after them.
@@ -49,9 +45,7 @@ pub fn put_close(labelled: bool, out: &mut [u8], at: usize) -> usize
     ensures { λ r. ⌜ Wrote (now (out .entry)) (now (out .exit)) at r (closeText labelled) ⌝ }
     ensures { λ r. ⌜ r ≤ at + 3 ⌝ }
 {
-    let brace = *b" }";
-    let round = *b")";
-    either(labelled, out, at, &brace, &round)
+    either(labelled, out, at, b" }", b")")
 }
 
 // Whether the constructor with the number i has labels: whether one stands at its first field.
