@@ -46,12 +46,9 @@ fn count_line(verdicts: &[u8], out: &mut [u8], at: usize) -> usize
     ensures { λ r. ⌜ r ≤ at + 128 ⌝ }
 {
     let yes = yeses(verdicts);
-    let clauses = *b"clauses ";
-    let reached = *b" reached ";
-    let never = *b" never ";
-    let a = numbered(out, at, &clauses, verdicts.len());
-    let b = numbered(out, a, &reached, yes);
-    ended(out, b, &never, verdicts.len() - yes)
+    let a = numbered(out, at, b"clauses ", verdicts.len());
+    let b = numbered(out, a, b" reached ", yes);
+    ended(out, b, b" never ", verdicts.len() - yes)
 }
 
 // A verdict in a word, at the end of its line.
@@ -60,9 +57,7 @@ fn verdict_word(yes: bool, out: &mut [u8], at: usize) -> usize
     ensures { λ r. ⌜ Wrote (now (out .entry)) (now (out .exit)) at r (cond yes (text " reached\n") (text " never\n")) ⌝ }
     ensures { λ r. ⌜ r ≤ at + 16 ⌝ }
 {
-    let reached = *b" reached\n";
-    let never = *b" never\n";
-    either(yes, out, at, &reached, &never)
+    either(yes, out, at, b" reached\n", b" never\n")
 }
 
 // The line of clause k.
@@ -71,8 +66,7 @@ fn clause_line(k: usize, yes: bool, out: &mut [u8], at: usize) -> usize
     ensures { λ r. ⌜ Wrote (now (out .entry)) (now (out .exit)) at r (line (text "clause " ++ decimalText k ++ verdictWord yes)) ⌝ }
     ensures { λ r. ⌜ r ≤ at + 64 ⌝ }
 {
-    let clause = *b"clause ";
-    let next = numbered(out, at, &clause, k);
+    let next = numbered(out, at, b"clause ", k);
     verdict_word(yes, out, next)
 }
 
@@ -101,6 +95,5 @@ pub fn head(verdicts: &[u8], gaps: usize, out: &mut [u8], at: usize) -> usize
 {
     let a = count_line(verdicts, out, at);
     let b = clause_lines(verdicts, out, a);
-    let word = *b"gaps ";
-    ended(out, b, &word, gaps)
+    ended(out, b, b"gaps ", gaps)
 }

@@ -12,11 +12,11 @@ slice-aggregate-numbered c =
 
 numbered-requires : tie.Need-numbered-requires
 numbered-requires c κs =
-    omega (arith, c .before .before .before .before .before .pre)
+    omega (arith, c .before .before .before .pre)
 
 verdict-word-requires : tie.Need-verdict-word-requires
 verdict-word-requires c κs =
-    omega (arith, c .before .before .before .before .before .before .before .before .before .pre, c .before .before .before .numbered .ensures .1)
+    omega (arith, c .before .before .before .before .before .before .before .pre, c .before .before .before .numbered .ensures .1)
 
 same-length : tie.Need-same-length
 same-length c =
@@ -24,7 +24,7 @@ same-length c =
 
 returns : tie.Need-returns
 returns c =
-    (clause-law (c .before .before .before .before .before .before .before .before .before .before .before .before .args .k) (c .before .before .before .before .before .before .before .before .before .before .before .before .args .yes) (wrote-more (c .before .before .before .before .before .before .numbered .ensures .0) (c .before .before .verdict-word .ensures .0)), omega (arith, c .before .before .before .before .before .before .numbered .ensures .1, c .before .before .verdict-word .ensures .1))
+    (clause-law (c .before .before .before .before .before .before .before .before .before .before .args .k) (c .before .before .before .before .before .before .before .before .before .before .args .yes) (wrote-more (c .before .before .before .before .before .before .numbered .ensures .0) (c .before .before .verdict-word .ensures .0)), omega (arith, c .before .before .before .before .before .before .numbered .ensures .1, c .before .before .verdict-word .ensures .1))
 
 pub clause-line-spec : {M : Type 1} → statement M
 clause-line-spec =

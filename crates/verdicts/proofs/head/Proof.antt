@@ -19,15 +19,15 @@ slice-aggregate-ended c =
 
 ended-requires : tie.Need-ended-requires
 ended-requires c κs =
-    omega (arith, c .before .before .before .before .before .before .before .before .before .before .before .before .before .before .pre, c .before .before .before .before .before .before .before .before .before .before .count-line .ensures .1, c .before .before .before .before .before .before .clause-lines .ensures .1)
+    omega (arith, c .before .before .before .before .before .before .before .before .before .before .before .before .pre, c .before .before .before .before .before .before .before .before .count-line .ensures .1, c .before .before .before .before .clause-lines .ensures .1)
 
 same-length : tie.Need-same-length
 same-length c =
-    c .before .before .ended .kept .0 ∙ c .before .before .before .before .before .before .before .before .before .clause-lines .kept .1 .0 ∙ c .before .before .before .before .before .before .before .before .before .before .before .before .before .count-line .kept .1 .0
+    c .before .before .ended .kept .0 ∙ c .before .before .before .before .before .before .before .clause-lines .kept .1 .0 ∙ c .before .before .before .before .before .before .before .before .before .before .before .count-line .kept .1 .0
 
 returns : tie.Need-returns
 returns c =
-    (wrote-more (wrote-more (c .before .before .before .before .before .before .before .before .before .before .before .before .before .count-line .ensures .0) (c .before .before .before .before .before .before .before .before .before .clause-lines .ensures .0)) (c .before .before .ended .ensures .0), omega (arith, c .before .before .before .before .before .before .before .before .before .before .before .before .before .count-line .ensures .1, c .before .before .before .before .before .before .before .before .before .clause-lines .ensures .1, c .before .before .ended .ensures .1))
+    (wrote-more (wrote-more (c .before .before .before .before .before .before .before .before .before .before .before .count-line .ensures .0) (c .before .before .before .before .before .before .before .clause-lines .ensures .0)) (c .before .before .ended .ensures .0), omega (arith, c .before .before .before .before .before .before .before .before .before .before .before .count-line .ensures .1, c .before .before .before .before .before .before .before .clause-lines .ensures .1, c .before .before .ended .ensures .1))
 
 pub head-spec : {M : Type 1} → statement M
 head-spec =
