@@ -8,7 +8,7 @@ use lib.ListN.{length, getD, set, replicate}
 use lib.Seq.{sets}
 use borrow.Author.Tests.{ne-eqb}
 use Rattle.layout.specs.Places.{places, labelled, reads}
-use Rattle.table.specs.Build.{low, builtArities, typeArities, typeFields, flagAt, isBare, fieldPlaces, labelsWith, WithCtor}
+use Rattle.table.specs.Build.{low, builtArities, typeArities, typeFields, flagAt, arityIn, isBare, fieldPlaces, labelsWith, WithCtor}
 use Rattle.layout.proofs.Loops.{length-places, length-map}
 
 -- two stores, one after another
@@ -68,6 +68,11 @@ module _ (bytes : List ℕ) (at k : ℕ) (e : k ≡ getD bytes at 0) where
     unfolding typeFields
     no-fields a b c = rw (← e) (other [] (getD bytes (at + 1) 0 ∷ t ∷ []) (reads bytes (places (at + 2) (getD bytes (at + 1) 0))) (reads bytes (places (at + 1) 2)) k a b c)
 
+-- the arities of the built-in constructors, copied
+pub built : reads builtArities (places 0 2) ≡ builtArities
+unfolding places
+built = refl
+
 module _ (d d′ : List ℕ) (from : ℕ) where
   -- what is stored, and how much it is, under an equal list
   pub stored : (xs ys : List ℕ) → ys ≡ xs → d′ ≡ sets d from xs → (length xs ≡ length ys) × (d′ ≡ sets d from ys)
@@ -103,38 +108,43 @@ module _ (bytes : List ℕ) (flag n f : ℕ) (e : f ≡ getD bytes flag 0) where
   unfolding labelsWith
   labels-stored used labels h = rw (not-bare h)
 
-module _ (bytes fields fields′ labels : List ℕ) (flag n f from end : ℕ) (ef : f ≡ getD bytes flag 0) (en : n ≡ getD bytes (flag + 1) 0) (r : end ≡ from + n) where
-  last-field : end ≡ from + getD bytes (flag + 1) 0
-  last-field = r ∙ ap (λ k. from + k) en
+module _ (bytes fields fields′ labels : List ℕ) (at flag n m f from : ℕ) (ey : flag ≡ flagAt bytes at) (ef : f ≡ getD bytes flag 0) (en : n ≡ getD bytes (flag + 1) 0) (em : m ≡ n) where
+  arity-is : n ≡ arityIn bytes at
+  arity-is = en ∙ ap (λ p. getD bytes (p + 1) 0) ey
+
+  places-are : fieldPlaces bytes flag m ≡ fieldPlaces bytes (flagAt bytes at) (arityIn bytes at)
+  places-are = ap (λ p. fieldPlaces bytes p m) ey ∙ ap (fieldPlaces bytes (flagAt bytes at)) (em ∙ arity-is)
+
+  labels-are : labelsWith bytes flag m from labels ≡ labelsWith bytes (flagAt bytes at) (arityIn bytes at) from labels
+  labels-are = ap (λ p. labelsWith bytes p m from labels) ey ∙ ap (λ k. labelsWith bytes (flagAt bytes at) k from labels) (em ∙ arity-is)
 
   -- the parts of a constructor without labels
-  pub bare-parts : f ≡ 0 → fields′ ≡ sets fields from (reads bytes (places (flag + 2) n)) → (end ≡ from + getD bytes (flag + 1) 0) × ((fields′ ≡ sets fields from (reads bytes (fieldPlaces bytes flag (getD bytes (flag + 1) 0)))) × (labels ≡ labelsWith bytes flag (getD bytes (flag + 1) 0) from labels))
-  bare-parts z s = (last-field, (s ∙ ap (λ ps. sets fields from (reads bytes ps)) (bare-places bytes flag n f ef z ∙ ap (fieldPlaces bytes flag) en), bare-labels bytes flag n f ef from labels z ∙ ap (λ k. labelsWith bytes flag k from labels) en))
+  pub bare-parts : f ≡ 0 → fields′ ≡ sets fields from (reads bytes (places (flag + 2) m)) → (n ≡ arityIn bytes at) × ((fields′ ≡ sets fields from (reads bytes (fieldPlaces bytes (flagAt bytes at) (arityIn bytes at)))) × (labels ≡ labelsWith bytes (flagAt bytes at) (arityIn bytes at) from labels))
+  bare-parts z s = (arity-is, (s ∙ ap (λ ps. sets fields from (reads bytes ps)) (bare-places bytes flag m f ef z ∙ places-are), bare-labels bytes flag m f ef from labels z ∙ labels-are))
 
   -- and with labels
-  pub labelled-parts : (labels′ : List ℕ) → (f ≡ 0 → ⊥) → fields′ ≡ sets fields from (reads bytes (labelled bytes (flag + 2) n)) → labels′ ≡ sets labels from (map (λ p. low (p + 1)) (labelled bytes (flag + 2) n)) → (end ≡ from + getD bytes (flag + 1) 0) × ((fields′ ≡ sets fields from (reads bytes (fieldPlaces bytes flag (getD bytes (flag + 1) 0)))) × (labels′ ≡ labelsWith bytes flag (getD bytes (flag + 1) 0) from labels))
-  labelled-parts labels′ z s l = (last-field, (s ∙ ap (λ ps. sets fields from (reads bytes ps)) (labelled-places bytes flag n f ef z ∙ ap (fieldPlaces bytes flag) en), l ∙ labels-stored bytes flag n f ef from labels z ∙ ap (λ k. labelsWith bytes flag k from labels) en))
+  pub labelled-parts : (labels′ : List ℕ) → (f ≡ 0 → ⊥) → fields′ ≡ sets fields from (reads bytes (labelled bytes (flag + 2) m)) → labels′ ≡ sets labels from (map (λ p. low (p + 1)) (labelled bytes (flag + 2) m)) → (n ≡ arityIn bytes at) × ((fields′ ≡ sets fields from (reads bytes (fieldPlaces bytes (flagAt bytes at) (arityIn bytes at)))) × (labels′ ≡ labelsWith bytes (flagAt bytes at) (arityIn bytes at) from labels))
+  labelled-parts labels′ z s l = (arity-is, (s ∙ ap (λ ps. sets fields from (reads bytes ps)) (labelled-places bytes flag m f ef z ∙ places-are), l ∙ labels-stored bytes flag m f ef from labels z ∙ labels-are))
 
--- the stores of a constructor frame whose labels' flag stands at `flag`, as constructor number i with a fields
+-- the stores of a constructor frame, as constructor number i with a fields
 pub ctor-stored :
     (bytes counts arities starts names fields labels counts′ arities′ starts′ names′ fields′ labels′ : List ℕ)
-    (at t used i flag a : ℕ)
+    (at t used i a : ℕ)
     → i ≡ 32 * t + getD counts t 0
-    → flag ≡ flagAt bytes at
-    → a ≡ getD bytes (flag + 1) 0
+    → a ≡ arityIn bytes at
     → counts′ ≡ set counts t (getD counts t 0 + 1)
     → arities′ ≡ set arities i a
     → starts′ ≡ set starts i (low used)
     → names′ ≡ set names i (low at)
-    → fields′ ≡ sets fields used (reads bytes (fieldPlaces bytes flag (getD bytes (flag + 1) 0)))
-    → labels′ ≡ labelsWith bytes flag (getD bytes (flag + 1) 0) used labels
+    → fields′ ≡ sets fields used (reads bytes (fieldPlaces bytes (flagAt bytes at) (arityIn bytes at)))
+    → labels′ ≡ labelsWith bytes (flagAt bytes at) (arityIn bytes at) used labels
     → WithCtor bytes at t used counts arities starts names fields labels counts′ arities′ starts′ names′ fields′ labels′
-ctor-stored bytes counts arities starts names fields labels counts′ arities′ starts′ names′ fields′ labels′ at t used i flag a ei ef ea sc sa ss sn sf sl =
+ctor-stored bytes counts arities starts names fields labels counts′ arities′ starts′ names′ fields′ labels′ at t used i a ei ea sc sa ss sn sf sl =
     record {
       countsAre = sc;
-      aritiesAre = sa ∙ ap (λ j. set arities j a) ei ∙ ap (set arities (32 * t + getD counts t 0)) (ea ∙ ap (λ j. getD bytes (j + 1) 0) ef);
+      aritiesAre = sa ∙ ap (λ j. set arities j a) ei ∙ ap (set arities (32 * t + getD counts t 0)) ea;
       startsAre = ss ∙ ap (λ j. set starts j (low used)) ei;
       namesAre = sn ∙ ap (λ j. set names j (low at)) ei;
-      fieldsAre = sf ∙ ap (λ j. sets fields used (reads bytes (fieldPlaces bytes j (getD bytes (j + 1) 0)))) ef;
-      labelsAre = sl ∙ ap (λ j. labelsWith bytes j (getD bytes (j + 1) 0) used labels) ef;
+      fieldsAre = sf;
+      labelsAre = sl;
     }

@@ -10,7 +10,7 @@ ghost use Prim.Native.Nat.{_+_, _-_, _*_, _<_, _≤_, _^_};
 ghost use lib.ListN.{length, getD, set, replicate};
 ghost use lib.Seq.{sets};
 ghost use Rattle.layout.specs.Places.{places, labelled, reads};
-ghost use Rattle.table.specs.Build.{low, typeArities, typeFields, WithType, arityIn, fieldPlaces, labelsWith, WithCtor};
+ghost use Rattle.table.specs.Build.{low, typeArities, typeFields, WithType, flagAt, arityIn, fieldPlaces, labelsWith, WithCtor};
 
 pub struct Sizes {
     pub types: usize,
@@ -47,8 +47,8 @@ fn put_arities(bytes: &[u8], at: usize, arities: &mut [u8], i: usize) -> u8
 {
     let kind = at8(bytes, at);
     if kind == 3 {
-        let next = put8(arities, i, BUILT_IN[0]);
-        put8(arities, next, BUILT_IN[1]);
+        let built = BUILT_IN;
+        put_fields(&built, 0, 2, arities, i);
         return 2;
     }
     if kind == 4 {
@@ -128,54 +128,49 @@ pub fn add_type(
     }
 }
 
-// n fields with labels, from `at` on: their types, written to `fields` from `from` on; the place after them.
-fn put_labelled(bytes: &[u8], at: usize, n: usize, fields: &mut [u8], from: usize) -> usize
+// n fields with labels, from `at` on: their types, written to `fields` from `from` on, and the places of their labels, to `labels`.
+fn put_labelled(
+    bytes: &[u8],
+    at: usize,
+    n: usize,
+    fields: &mut [u8],
+    labels: &mut [u16],
+    from: usize,
+)
     requires { ⌜ at < 2 ^ 33 ⌝ }
     requires { ⌜ n < 256 ⌝ }
     requires { ⌜ from < 2 ^ 32 ⌝ }
-    ensures { λ r. ⌜ r ≡ from + n ⌝ }
     ensures { λ _. ⌜ now (fields .exit) ≡ sets (now (fields .entry)) from (reads (now (bytes .entry)) (labelled (now (bytes .entry)) at n)) ⌝ }
-{
-    let end = from + n;
-    let mut k = from;
-    let mut p = at;
-    while k < end {
-        k = put8(fields, k, at8(bytes, p));
-        p = after_name(bytes, p + 1);
-    }
-    k
-}
-
-// And the places of their labels, written to `labels`.
-fn put_labels(bytes: &[u8], at: usize, n: usize, labels: &mut [u16], from: usize)
-    requires { ⌜ at < 2 ^ 33 ⌝ }
-    requires { ⌜ n < 256 ⌝ }
-    requires { ⌜ from < 2 ^ 32 ⌝ }
     ensures { λ _. ⌜ now (labels .exit) ≡ sets (now (labels .entry)) from (map (λ p. low (p + 1)) (labelled (now (bytes .entry)) at n)) ⌝ }
 {
     let end = from + n;
     let mut k = from;
     let mut p = at;
     while k < end {
-        k = put16(labels, k, ((p + 1) % 65536) as u16);
-        p = after_name(bytes, p + 1);
+        put8(fields, k, at8(bytes, p));
+        p += 1;
+        k = put16(labels, k, (p % 65536) as u16);
+        p = after_name(bytes, p);
     }
 }
 
-// A constructor's fields, from the labels' flag on; the place after them.
-fn put_parts(bytes: &[u8], flag: usize, fields: &mut [u8], labels: &mut [u16], from: usize) -> usize
-    requires { ⌜ flag < 2 ^ 32 + 512 ⌝ }
+// A constructor's fields, from its name's length on, written from `from` on; how many they are.
+fn put_parts(bytes: &[u8], at: usize, fields: &mut [u8], labels: &mut [u16], from: usize) -> u8
+    requires { ⌜ at < 2 ^ 32 ⌝ }
     requires { ⌜ from < 2 ^ 32 ⌝ }
-    ensures { λ r. ⌜ r ≡ from + getD (now (bytes .entry)) (flag + 1) 0 ⌝ }
-    ensures { λ _. ⌜ now (fields .exit) ≡ sets (now (fields .entry)) from (reads (now (bytes .entry)) (fieldPlaces (now (bytes .entry)) flag (getD (now (bytes .entry)) (flag + 1) 0))) ⌝ }
-    ensures { λ _. ⌜ now (labels .exit) ≡ labelsWith (now (bytes .entry)) flag (getD (now (bytes .entry)) (flag + 1) 0) from (now (labels .entry)) ⌝ }
+    ensures { λ r. ⌜ r ≡ arityIn (now (bytes .entry)) at ⌝ }
+    ensures { λ _. ⌜ now (fields .exit) ≡ sets (now (fields .entry)) from (reads (now (bytes .entry)) (fieldPlaces (now (bytes .entry)) (flagAt (now (bytes .entry)) at) (arityIn (now (bytes .entry)) at))) ⌝ }
+    ensures { λ _. ⌜ now (labels .exit) ≡ labelsWith (now (bytes .entry)) (flagAt (now (bytes .entry)) at) (arityIn (now (bytes .entry)) at) from (now (labels .entry)) ⌝ }
 {
-    let n = wide8(at8(bytes, flag + 1));
+    let flag = after_name(bytes, at);
+    let n = at8(bytes, flag + 1);
+    let m = wide8(n);
     if at8(bytes, flag) == 0 {
-        return put_fields(bytes, flag + 2, n, fields, from);
+        put_fields(bytes, flag + 2, m, fields, from);
+        return n;
     }
-    put_labels(bytes, flag + 2, n, labels, from);
-    put_labelled(bytes, flag + 2, n, fields, from)
+    put_labelled(bytes, flag + 2, m, fields, labels, from);
+    n
 }
 
 // One more constructor of the type t is counted; its number.
@@ -234,20 +229,11 @@ pub fn add_ctor(
     ensures { λ _. ⌜ WithCtor (now (bytes .entry)) at (s .types - 1) (s .fields) (now (counts .entry)) (now (arities .entry)) (now (starts .entry)) (now (names .entry)) (now (fields .entry)) (now (labels .entry)) (now (counts .exit)) (now (arities .exit)) (now (starts .exit)) (now (names .exit)) (now (fields .exit)) (now (labels .exit)) ⌝ }
 {
     let i = count_ctor(counts, s.types - 1);
-    let flag = after_name(bytes, at);
-    put_ctor(
-        arities,
-        starts,
-        names,
-        i,
-        at8(bytes, flag + 1),
-        s.fields,
-        at,
-    );
-    let end = put_parts(bytes, flag, fields, labels, s.fields);
+    let n = put_parts(bytes, at, fields, labels, s.fields);
+    put_ctor(arities, starts, names, i, n, s.fields, at);
     Sizes {
         types: s.types,
         ctors: s.ctors + 1,
-        fields: end,
+        fields: s.fields + wide8(n),
     }
 }

@@ -1,9 +1,10 @@
 -- `table::put_arities` meets its contract: the kind of type decides.
-use mathlib.Core.Path.{refl, _∙_}
+use mathlib.Core.Path.{refl, ap, _∙_}
 use mathlib.Core.List.{[], _∷_}
 use native.Mathlib.Omega.{arith}
+use lib.Seq.{sets}
 use Rattle.table.specs.Build.{builtArities}
-use Rattle.table.proofs.Stores.{two, list-arities, tuple-arities, pair-arities, no-arities, stored}
+use Rattle.table.proofs.Stores.{built, list-arities, tuple-arities, pair-arities, no-arities, stored}
 use borrow.Author.Needs.{needs}
 use Rattle.table.proofs.put_arities.Statement.{statement}
 use Rattle.table.proofs.put_arities.Tie as tie
@@ -12,28 +13,21 @@ at8-requires : tie.Need-at8-requires
 at8-requires c κs =
     tt
 
-array-read-put8 : tie.Need-array-read-put8
-array-read-put8 c = search needs
+slice-aggregate-put-fields : tie.Need-slice-aggregate-put-fields
+slice-aggregate-put-fields c = search needs
 
-put8-requires : tie.Need-put8-requires
-put8-requires c κs =
-    omega (arith, c .before .before .before .before .before .pre)
-
-array-read-put8-2 : tie.Need-array-read-put8-2
-array-read-put8-2 c = search needs
-
-put8-requires-2 : tie.Need-put8-requires-2
-put8-requires-2 c κs =
-    omega (arith, c .before .before .before .before .before .before .before .before .before .pre, c .before .before .before .put8 .ensures .0)
+put-fields-requires : tie.Need-put-fields-requires
+put-fields-requires c κs =
+    omega (arith, c .before .before .before .before .before .before .pre)
 
 same-length : tie.Need-same-length
 same-length c =
-    c .before .before .put82 .kept .0 ∙ c .before .before .before .before .before .before .put8 .kept .0
+    c .before .before .put-fields .kept .1 .1 .1 .0
 
 returns : tie.Need-returns
 returns c =
-    let a = c .before .before .before .before .before .before .before .before .before .before .before .before .args in
-    stored _ _ (a .i) builtArities _ (list-arities (a .bytes .now) (a .at) (c .before .before .before .before .before .before .before .before .before .at8 .result) (c .before .before .before .before .before .before .before .before .before .at8 .ensures) (c .before .before .before .before .before .before .before .before .if1 .taken)) (two (a .arities .now) (c .before .before .before .before .before .before .put8 .last .0) (c .before .before .put82 .last .0) (a .i) (c .before .before .before .before .before .before .put8 .result) 2 2 0 0 (c .before .before .before .before .before .before .put8 .ensures .1) refl (c .before .before .before .before .before .before .put8 .ensures .0) (c .before .before .put82 .ensures .1) refl)
+    let a = c .before .before .before .before .before .before .before .before .before .args in
+    stored _ _ (a .i) builtArities _ (list-arities (a .bytes .now) (a .at) (c .before .before .before .before .before .before .at8 .result) (c .before .before .before .before .before .before .at8 .ensures) (c .before .before .before .before .before .if1 .taken)) (c .before .before .put-fields .ensures .1 ∙ ap (sets (a .arities .now) (a .i)) built)
 
 add-at8 : tie.Need-add-at8
 add-at8 c =
@@ -43,31 +37,31 @@ at8-requires-2 : tie.Need-at8-requires-2
 at8-requires-2 c κs =
     tt
 
-put8-requires-3 : tie.Need-put8-requires-3
-put8-requires-3 c κs =
+put8-requires : tie.Need-put8-requires
+put8-requires c κs =
     omega (arith, c .before .before .before .before .before .before .before .pre)
 
 same-length-2 : tie.Need-same-length-2
 same-length-2 c =
-    c .before .before .put83 .kept .0
+    c .before .before .put8 .kept .0
 
 returns-2 : tie.Need-returns-2
 returns-2 c =
     let a = c .before .before .before .before .before .before .before .before .before .before .args in
-    stored _ _ (a .i) (c .before .before .before .at82 .result ∷ []) _ (tuple-arities (a .bytes .now) (a .at) (c .before .before .before .before .before .before .before .at8 .result) (c .before .before .before .before .before .before .before .at8 .ensures) (c .before .before .before .at82 .result) (c .before .before .before .at82 .ensures) (c .before .before .before .before .before .if2 .taken)) (c .before .before .put83 .ensures .1)
+    stored _ _ (a .i) (c .before .before .before .at82 .result ∷ []) _ (tuple-arities (a .bytes .now) (a .at) (c .before .before .before .before .before .before .before .at8 .result) (c .before .before .before .before .before .before .before .at8 .ensures) (c .before .before .before .at82 .result) (c .before .before .before .at82 .ensures) (c .before .before .before .before .before .if2 .taken)) (c .before .before .put8 .ensures .1)
 
-put8-requires-4 : tie.Need-put8-requires-4
-put8-requires-4 c κs =
+put8-requires-2 : tie.Need-put8-requires-2
+put8-requires-2 c κs =
     omega (arith, c .before .before .before .before .before .before .before .pre)
 
 same-length-3 : tie.Need-same-length-3
 same-length-3 c =
-    c .before .before .put84 .kept .0
+    c .before .before .put82 .kept .0
 
 returns-3 : tie.Need-returns-3
 returns-3 c =
     let a = c .before .before .before .before .before .before .before .before .before .before .args in
-    stored _ _ (a .i) (2 ∷ []) _ (pair-arities (a .bytes .now) (a .at) (c .before .before .before .before .before .before .before .at8 .result) (c .before .before .before .before .before .before .before .at8 .ensures) (c .before .before .before .before .if3 .taken)) (c .before .before .put84 .ensures .1)
+    stored _ _ (a .i) (2 ∷ []) _ (pair-arities (a .bytes .now) (a .at) (c .before .before .before .before .before .before .before .at8 .result) (c .before .before .before .before .before .before .before .at8 .ensures) (c .before .before .before .before .if3 .taken)) (c .before .before .put82 .ensures .1)
 
 returns-4 : tie.Need-returns-4
 returns-4 c =
@@ -79,18 +73,16 @@ put-arities-spec =
     tie.close
     (tie.spec
     at8-requires
-    array-read-put8
-    put8-requires
-    array-read-put8-2
-    put8-requires-2
+    slice-aggregate-put-fields
+    put-fields-requires
     same-length
     returns
     add-at8
     at8-requires-2
-    put8-requires-3
+    put8-requires
     same-length-2
     returns-2
-    put8-requires-4
+    put8-requires-2
     same-length-3
     returns-3
     returns-4)

@@ -1,19 +1,21 @@
--- `table::put_labelled` meets its contract: what is written and what is still to come are the whole run.
+-- `table::put_labelled` meets its contract: in both slices what is written and what is still to come are the whole run.
 use mathlib.Core.Path.{_≡_, refl, _∙_}
+use mathlib.Core.List.{map}
 use Prim.Native.Nat.{_+_, _-_, _*_, _≤_}
 use native.Mathlib.Omega.{arith}
 use lib.ListN.{length, getD}
 use lib.Seq.{sets}
 use Rattle.layout.specs.Places.{labelled, reads}
 use Rattle.layout.proofs.Loops.{labelled-step, labelled-end, run-start, run-step, run-end}
+use Rattle.table.specs.Build.{low}
 use Rattle.table.proofs.put_labelled.Statement.{statement}
 use Rattle.table.proofs.put_labelled.Tie as tie
 
 abbrev Inv-loop : tie.InvT-loop
-Inv-loop bytes at n fields₀ from end k₀ p₀ fields k p = (from ≤ k) × (k ≤ end) × (p + 257 * from ≤ at + 257 * k) × (length fields ≡ length fields₀) × (sets fields k (reads bytes (labelled bytes p (end - k))) ≡ sets fields₀ from (reads bytes (labelled bytes at n)))
+Inv-loop bytes at n fields₀ labels₀ from end k₀ p₀ fields labels k p = (from ≤ k) × (k ≤ end) × (p + 257 * from ≤ at + 257 * k) × (length fields ≡ length fields₀) × (length labels ≡ length labels₀) × (sets fields k (reads bytes (labelled bytes p (end - k))) ≡ sets fields₀ from (reads bytes (labelled bytes at n))) × (sets labels k (map (λ q. low (q + 1)) (labelled bytes p (end - k))) ≡ sets labels₀ from (map (λ q. low (q + 1)) (labelled bytes at n)))
 
 abbrev μ-loop : tie.MeasureT-loop
-μ-loop bytes at n fields₀ from end k₀ p₀ fields k p = end - k
+μ-loop bytes at n fields₀ labels₀ from end k₀ p₀ fields labels k p = end - k
 
 add-end : tie.Need-add-end Inv-loop μ-loop
 add-end c =
@@ -21,8 +23,8 @@ add-end c =
 
 loop-holds : tie.Need-loop-holds Inv-loop μ-loop
 loop-holds c =
-    let a = c .before .before .args in
-    (omega arith, omega arith, omega arith, refl, run-start (λ p. getD (a .bytes .now) p 0) (a .fields .now) (a .from) (labelled (a .bytes .now) (a .at)) (a .n))
+    let a = c .before .before .before .args in
+    (omega arith, omega arith, omega arith, refl, refl, run-start (λ p. getD (a .bytes .now) p 0) (a .fields .now) (a .from) (labelled (a .bytes .now) (a .at)) (a .n), run-start (λ p. low (p + 1)) (a .labels .now) (a .from) (labelled (a .bytes .now) (a .at)) (a .n))
 
 at8-requires : tie.Need-at8-requires Inv-loop μ-loop
 at8-requires c κs =
@@ -32,8 +34,16 @@ put8-requires : tie.Need-put8-requires Inv-loop μ-loop
 put8-requires c κs =
     omega arith
 
-add-after-name : tie.Need-add-after-name Inv-loop μ-loop
-add-after-name c =
+add-p : tie.Need-add-p Inv-loop μ-loop
+add-p c =
+    omega arith
+
+cast-put16 : tie.Need-cast-put16 Inv-loop μ-loop
+cast-put16 c =
+    omega arith
+
+put16-requires : tie.Need-put16-requires Inv-loop μ-loop
+put16-requires c κs =
     omega arith
 
 after-name-requires : tie.Need-after-name-requires Inv-loop μ-loop
@@ -42,25 +52,30 @@ after-name-requires c κs =
 
 loop-less : tie.Need-loop-less Inv-loop μ-loop
 loop-less c =
-    omega (arith, c .before .before .before .put8 .ensures .0)
+    omega (arith, c .before .before .before .put16 .ensures .0)
 
 loop-again : tie.Need-loop-again Inv-loop μ-loop
 loop-again c =
-    let a = c .before .before .before .before .before .before .before .before .before .before .args in
-    let l = c .before .before .before .before .before .before .before .loop in
-    let put8 = c .before .before .before .put8 in
+    let a = c .before .before .before .before .before .before .before .before .before .before .before .before .before .before .before .args in
+    let l = c .before .before .before .before .before .before .before .before .before .before .before .loop in
+    let put16 = c .before .before .before .put16 in
     let after-name = c .after-name in
-    (omega (arith, put8 .ensures .0), omega (arith, put8 .ensures .0), omega (arith, put8 .ensures .0, after-name .ensures .1), put8 .kept .0 ∙ l .inv .3, run-step (λ p. getD (a .bytes .now) p 0) (l .fields) (put8 .last .0) (l .k) (put8 .result) _ _ _ _ (omega (arith, put8 .ensures .0)) (labelled-step (a .bytes .now) (l .p) (after-name .result) (a .from + a .n - l .k) (a .from + a .n - put8 .result) (omega (arith, put8 .ensures .0)) (after-name .ensures .0)) (c .before .before .before .before .at8 .ensures) (put8 .ensures .1) ∙ l .inv .4)
+    let step = labelled-step (a .bytes .now) (l .p) (after-name .result) (a .from + a .n - l .k) (a .from + a .n - put16 .result) (omega (arith, put16 .ensures .0)) (after-name .ensures .0) in
+    (omega (arith, put16 .ensures .0), omega (arith, put16 .ensures .0), omega (arith, put16 .ensures .0, after-name .ensures .1), c .before .before .before .before .before .before .before .put8 .kept .0 ∙ l .inv .3, put16 .kept .0 ∙ l .inv .4, run-step (λ p. getD (a .bytes .now) p 0) (l .fields) (c .before .before .before .before .before .before .before .put8 .last .0) (l .k) (put16 .result) _ _ _ _ (omega (arith, put16 .ensures .0)) step (c .before .before .before .before .before .before .before .before .at8 .ensures) (c .before .before .before .before .before .before .before .put8 .ensures .1) ∙ l .inv .5, run-step (λ p. low (p + 1)) (l .labels) (put16 .last .0) (l .k) (put16 .result) _ _ _ _ (omega (arith, put16 .ensures .0)) step refl (put16 .ensures .1) ∙ l .inv .6)
 
 same-length : tie.Need-same-length Inv-loop μ-loop
 same-length c =
     c .before .loop .inv .3
 
+same-length-2 : tie.Need-same-length-2 Inv-loop μ-loop
+same-length-2 c =
+    c .before .loop .inv .4
+
 returns : tie.Need-returns Inv-loop μ-loop
 returns c =
-    let a = c .before .before .before .before .args in
+    let a = c .before .before .before .before .before .args in
     let l = c .before .loop in
-    (omega arith, run-end (λ p. getD (a .bytes .now) p 0) (l .fields) (l .k) _ (labelled-end (a .bytes .now) (l .p) (a .from + a .n - l .k) (omega arith)) ∙ l .inv .4)
+    (run-end (λ p. getD (a .bytes .now) p 0) (l .fields) (l .k) _ (labelled-end (a .bytes .now) (l .p) (a .from + a .n - l .k) (omega arith)) ∙ l .inv .5, run-end (λ p. low (p + 1)) (l .labels) (l .k) _ (labelled-end (a .bytes .now) (l .p) (a .from + a .n - l .k) (omega arith)) ∙ l .inv .6)
 
 pub put-labelled-spec : {M : Type 1} → statement M
 put-labelled-spec =
@@ -72,9 +87,12 @@ put-labelled-spec =
     loop-holds
     at8-requires
     put8-requires
-    add-after-name
+    add-p
+    cast-put16
+    put16-requires
     after-name-requires
     loop-less
     loop-again
     same-length
+    same-length-2
     returns)

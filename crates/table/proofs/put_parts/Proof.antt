@@ -1,63 +1,73 @@
 -- `table::put_parts` meets its contract: the flag decides.
-use mathlib.Core.Path.{_∙_}
 use native.Mathlib.Omega.{arith}
 use Rattle.table.proofs.Stores.{bare-parts, labelled-parts}
+use borrow.Author.Needs.{needs}
 use Rattle.table.proofs.put_parts.Statement.{statement}
 use Rattle.table.proofs.put_parts.Tie as tie
 
+after-name-requires : tie.Need-after-name-requires
+after-name-requires c κs =
+    omega (arith, c .before .before .before .pre)
+
 add-at8 : tie.Need-add-at8
-add-at8 c = omega (arith, c .before .before .before .pre)
+add-at8 c =
+    omega (arith, c .before .before .before .before .pre, c .after-name .ensures .1)
 
 at8-requires : tie.Need-at8-requires
-at8-requires c κs = tt
+at8-requires c κs =
+    tt
 
 wide8-requires : tie.Need-wide8-requires
-wide8-requires c κs = tt
+wide8-requires c κs =
+    tt
 
 at8-requires-2 : tie.Need-at8-requires-2
-at8-requires-2 c κs = tt
+at8-requires-2 c κs =
+    tt
 
 add-put-fields : tie.Need-add-put-fields
-add-put-fields c = omega (arith, c .before .before .before .before .before .before .before .pre)
+add-put-fields c =
+    omega (arith, c .before .before .before .before .before .before .before .before .pre, c .before .before .before .before .after-name .ensures .1)
 
 put-fields-requires : tie.Need-put-fields-requires
-put-fields-requires c κs = omega (arith, c .before .before .before .before .before .before .before .before .pre, c .before .before .before .wide8 .ensures, c .before .before .before .before .at8 .ok)
+put-fields-requires c κs =
+    omega (arith, c .before .before .before .before .before .before .before .before .before .pre, c .before .before .before .before .before .after-name .ensures .1, c .before .before .before .wide8 .ensures, c .before .before .before .before .at8 .ok)
 
 same-length : tie.Need-same-length
-same-length c = c .before .before .put-fields .kept .1 .1 .1 .0
+same-length c =
+    c .before .before .put-fields .kept .1 .1 .1 .0
 
 returns : tie.Need-returns
 returns c =
-    let a = c .before .before .before .before .before .before .before .before .before .before .before .args in
-    bare-parts (a .bytes .now) (a .fields .now) (c .before .before .put-fields .last .1 .1 .1 .0) (a .labels .now) (a .flag) (c .before .before .before .before .before .before .wide8 .result) (c .before .before .before .before .before .at82 .result) (a .from) (c .before .before .put-fields .result) (c .before .before .before .before .before .at82 .ensures) (c .before .before .before .before .before .before .wide8 .ensures ∙ c .before .before .before .before .before .before .before .at8 .ensures) (c .before .before .put-fields .ensures .0) (c .before .before .before .before .if1 .taken) (c .before .before .put-fields .ensures .1)
-
-add-put-labels : tie.Need-add-put-labels
-add-put-labels c = omega (arith, c .before .before .before .before .before .before .before .pre)
-
-put-labels-requires : tie.Need-put-labels-requires
-put-labels-requires c κs = omega (arith, c .before .before .before .before .before .before .before .before .pre, c .before .before .before .wide8 .ensures, c .before .before .before .before .at8 .ok)
+    let a = c .before .before .before .before .before .before .before .before .before .before .before .before .args in
+    bare-parts (a .bytes .now) (a .fields .now) (c .before .before .put-fields .last .1 .1 .1 .0) (a .labels .now) (a .at) (c .before .before .before .before .before .before .before .before .after-name .result) (c .before .before .before .before .before .before .before .at8 .result) (c .before .before .before .before .before .before .wide8 .result) (c .before .before .before .before .before .at82 .result) (a .from) (c .before .before .before .before .before .before .before .before .after-name .ensures .0) (c .before .before .before .before .before .at82 .ensures) (c .before .before .before .before .before .before .before .at8 .ensures) (c .before .before .before .before .before .before .wide8 .ensures) (c .before .before .before .before .if1 .taken) (c .before .before .put-fields .ensures .1)
 
 add-put-labelled : tie.Need-add-put-labelled
-add-put-labelled c = omega (arith, c .before .before .before .before .before .before .before .before .before .before .before .pre)
+add-put-labelled c =
+    omega (arith, c .before .before .before .before .before .before .before .before .pre, c .before .before .before .before .after-name .ensures .1)
 
 put-labelled-requires : tie.Need-put-labelled-requires
-put-labelled-requires c κs = omega (arith, c .before .before .before .before .before .before .before .before .before .before .before .before .pre, c .before .before .before .before .before .before .before .wide8 .ensures, c .before .before .before .before .before .before .before .before .at8 .ok)
+put-labelled-requires c κs =
+    omega (arith, c .before .before .before .before .before .before .before .before .before .before .pre, c .before .before .before .before .before .before .after-name .ensures .1, c .before .before .before .before .wide8 .ensures, c .before .before .before .before .before .at8 .ok)
 
 same-length-2 : tie.Need-same-length-2
-same-length-2 c = c .before .before .put-labelled .kept .1 .1 .1 .0
+same-length-2 c =
+    c .before .before .before .before .put-labelled .kept .1 .1 .1 .0
 
 same-length-3 : tie.Need-same-length-3
-same-length-3 c = c .before .before .before .before .before .before .put-labels .kept .1 .1 .1 .0
+same-length-3 c =
+    c .before .before .before .before .put-labelled .kept .1 .1 .1 .1 .0
 
 returns-2 : tie.Need-returns-2
 returns-2 c =
     let a = c .before .before .before .before .before .before .before .before .before .before .before .before .before .before .before .args in
-    labelled-parts (a .bytes .now) (a .fields .now) (c .before .before .put-labelled .last .1 .1 .1 .0) (a .labels .now) (a .flag) (c .before .before .before .before .before .before .before .before .before .before .wide8 .result) (c .before .before .before .before .before .before .before .before .before .at82 .result) (a .from) (c .before .before .put-labelled .result) (c .before .before .before .before .before .before .before .before .before .at82 .ensures) (c .before .before .before .before .before .before .before .before .before .before .wide8 .ensures ∙ c .before .before .before .before .before .before .before .before .before .before .before .at8 .ensures) (c .before .before .put-labelled .ensures .0) (c .before .before .before .before .before .before .put-labels .last .1 .1 .1 .0) (c .before .before .before .before .before .before .before .before .if1 .left) (c .before .before .put-labelled .ensures .1) (c .before .before .before .before .before .before .put-labels .ensures)
+    labelled-parts (a .bytes .now) (a .fields .now) (c .before .before .before .before .put-labelled .last .1 .1 .1 .0) (a .labels .now) (a .at) (c .before .before .before .before .before .before .before .before .before .before .before .after-name .result) (c .before .before .before .before .before .before .before .before .before .before .at8 .result) (c .before .before .before .before .before .before .before .before .before .wide8 .result) (c .before .before .before .before .before .before .before .before .at82 .result) (a .from) (c .before .before .before .before .before .before .before .before .before .before .before .after-name .ensures .0) (c .before .before .before .before .before .before .before .before .at82 .ensures) (c .before .before .before .before .before .before .before .before .before .before .at8 .ensures) (c .before .before .before .before .before .before .before .before .before .wide8 .ensures) (c .before .before .before .before .put-labelled .last .1 .1 .1 .1 .0) (c .before .before .before .before .before .before .before .if1 .left) (c .before .before .before .before .put-labelled .ensures .0) (c .before .before .before .before .put-labelled .ensures .1)
 
 pub put-parts-spec : {M : Type 1} → statement M
 put-parts-spec =
     tie.close
     (tie.spec
+    after-name-requires
     add-at8
     at8-requires
     wide8-requires
@@ -66,8 +76,6 @@ put-parts-spec =
     put-fields-requires
     same-length
     returns
-    add-put-labels
-    put-labels-requires
     add-put-labelled
     put-labelled-requires
     same-length-2
