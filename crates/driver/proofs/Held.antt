@@ -11,7 +11,7 @@ use Rattle.scope.specs.Report.{findings}
 use Rattle.meaning.proofs.Parsing.{Good, block-good}
 use Rattle.meaning.proofs.Fitting.{all-suit}
 use Rattle.meaning.proofs.Gaps.{missing-typed}
-use Rattle.entering.specs.Said as read
+use Rattle.reading.specs.Said as read
 use Rattle.reading.specs.Files.{HoldsBlock}
 use Rattle.reading.proofs.Literals.{block-literal}
 use Rattle.agreement.proofs.Blocks.{block-sound}

@@ -16,7 +16,7 @@ use Rattle.scope.proofs.Tests.{clash}
 use Rattle.answers.proofs.Answers.{outcome-2, outcome-lines, judged-faulty}
 use Rattle.reading.specs.declared.file.Parsed.{Parsed}
 use Rattle.reading.specs.declared.file.Parsed.the-variants as parsedAs
-use Rattle.entering.specs.Said as read
+use Rattle.reading.specs.Said as read
 use Rattle.reading.specs.Files.{fileOf, ReadAs, aBlock, aFault}
 use Rattle.reading.proofs.Whole.{file-long, file-lines}
 use Rattle.fitting.specs.Given.{Given}

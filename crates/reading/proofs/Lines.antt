@@ -24,12 +24,12 @@ use Rattle.patterns.specs.Rows.{RowAt}
 use Rattle.patterns.proofs.Rows.{row-grown}
 use Rattle.order.specs.declared.State.{State}
 use Rattle.order.specs.Phases.{phaseOf, isClosed, closesIn, Numbers}
-use Rattle.entering.specs.declared.Step.{Step}
-use Rattle.entering.specs.declared.Step.the-variants.{On, Refused}
+use Rattle.reading.specs.declared.line.Step.{Step}
+use Rattle.reading.specs.declared.line.Step.the-variants.{On, Refused}
 use Rattle.reading.specs.declared.file.Parsed as answers
-use Rattle.entering.specs.Said.{Held, held, Sized, Rows, Says, Stepped, goes, stops}
+use Rattle.reading.specs.Said.{Held, held, Sized, Rows, Says, Stepped, goes, stops}
 use Rattle.reading.specs.Files.{HoldsBlock, fileOf, endOf, LinesAs, saysBlock, saysFault}
-use Rattle.entering.proofs.Entering.{no-rows}
+use Rattle.reading.proofs.Entering.{no-rows}
 use Rattle.reading.proofs.Whole.{file-lines}
 
 -- the slices, with more bytes

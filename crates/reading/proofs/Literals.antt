@@ -10,7 +10,7 @@ use Rattle.scope.specs.Patterns.{Row}
 use Rattle.scope.specs.Blocks as scope
 use Rattle.layout.specs.Nodes.{LiteralStands, Literals, done, also}
 use Rattle.patterns.specs.Rows.{RowAt}
-use Rattle.entering.specs.Said.{Held}
+use Rattle.reading.specs.Said.{Held}
 use Rattle.reading.specs.Files.{HoldsBlock}
 
 -- among nodes

@@ -8,7 +8,7 @@ use Rattle.scope.specs.Blocks as scope
 use Rattle.scope.specs.Blocks.{parsed, faulty}
 use Rattle.reading.specs.declared.file.Parsed.{Parsed}
 use Rattle.reading.specs.declared.file.Parsed.the-variants.{Block, Faulty}
-use Rattle.entering.specs.Said.{Held, held}
+use Rattle.reading.specs.Said.{Held, held}
 use Rattle.reading.specs.Files.{ReadAs, aBlock, aFault}
 
 same-block : {s s′ c c′ t t′ : ℕ} → s ≡ s′ → c ≡ c′ → t ≡ t′ → Block s c t ≡ Block s′ c′ t′

@@ -12,7 +12,7 @@ use Rattle.order.specs.declared.State.{State}
 use Rattle.order.specs.Phases.{closesIn}
 use Rattle.reading.specs.declared.file.Parsed.{Parsed}
 use Rattle.reading.specs.declared.file.Parsed.the-variants.{Block, Faulty}
-use Rattle.entering.specs.Said.{Held, held, Sized}
+use Rattle.reading.specs.Said.{Held, held, Sized}
 use Rattle.reading.specs.Files.{Blank, fileOf, endOf, LinesAs, saysBlock, saysFault, ReadAs, aBlock, aFault}
 
 -- 2

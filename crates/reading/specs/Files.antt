@@ -17,7 +17,7 @@ use Rattle.order.specs.declared.State.{State}
 use Rattle.order.specs.Phases.{closesIn}
 use Rattle.reading.specs.declared.file.Parsed.{Parsed}
 use Rattle.reading.specs.declared.file.Parsed.the-variants.{Block, Faulty}
-use Rattle.entering.specs.Said.{Held, Sized}
+use Rattle.reading.specs.Said.{Held, Sized}
 
 -- the slices hold a block: its types, its rows, one for each clause, with every literal whole among the bytes; and it is sound
 pub record HoldsBlock (h : Held) (subject clauses types : ℕ) (b : scope.Block) : Type 0 where

@@ -1,10 +1,10 @@
 // A file: 2, then its lines, one step each.
+use crate::line::Step;
+use crate::line::enter_line;
 use clearing::clear_ctors;
 use clearing::clear_fields;
 use clearing::clear_rows;
 use clearing::clear_types;
-use entering::Step;
-use entering::enter_line;
 use hex::Line;
 use hex::read_line;
 use order::State;
@@ -14,7 +14,7 @@ use order::start;
 ghost use mathlib.Core.Path.{_≡_};
 ghost use Prim.Native.Nat.{_≤_};
 ghost use lib.ListN.{length, replicate};
-ghost use Rattle.entering.specs.Said.{held, Sized};
+ghost use Rattle.reading.specs.Said.{held, Sized};
 ghost use Rattle.reading.specs.Files.{endOf, LinesAs, ReadAs};
 
 pub enum Parsed {

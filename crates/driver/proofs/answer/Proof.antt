@@ -4,7 +4,7 @@ use Prim.Native.Nat.{ℕ}
 use native.Mathlib.Omega.{arith}
 use lib.ListN.{length, length-replicate}
 use lib.Seq.{length-take-le}
-use Rattle.entering.specs.Said.{held}
+use Rattle.reading.specs.Said.{held}
 use Rattle.driver.proofs.Outcomes.{known-read, few-read, block-given, fault-given}
 use borrow.Author.Needs.{needs}
 use Rattle.driver.proofs.answer.Statement.{statement}

@@ -1,6 +1,6 @@
 -- `reading::file::read` meets its contract: what the lines answered, and after a refusal every table cleared.
 use mathlib.Core.Path.{refl}
-use Rattle.entering.specs.Said.{held}
+use Rattle.reading.specs.Said.{held}
 use Rattle.reading.proofs.Whole.{relabelled, block-read, fault-read}
 use borrow.Author.Needs.{needs}
 use Rattle.reading.proofs.file.read.Statement.{statement}

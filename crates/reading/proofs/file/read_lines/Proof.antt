@@ -4,7 +4,7 @@ use Prim.Native.Nat.{ℕ, _*_, _-_, _≤_}
 use native.Mathlib.Omega.{arith}
 use borrow.Author.Tests.{ltb-true, ltb-false}
 use lib.ListN.{length, take}
-use Rattle.entering.specs.Said.{held}
+use Rattle.reading.specs.Said.{held}
 use Rattle.reading.specs.Files.{saysFault}
 use Rattle.reading.proofs.Lines.{Within, taken, not-taken, within-start, line-bad, next-line, to-after, line-long, line-asks, line-says, line-less, line-stops, line-goes, at-last}
 use Rattle.reading.proofs.Whole.{file-long}

@@ -19,8 +19,8 @@ ghost use Rattle.patterns.specs.Rows.{Ready};
 ghost use lib.ListN.{length, getD, drop};
 ghost use Rattle.scope.specs.Blocks as scope;
 ghost use Rattle.scope.specs.Blocks.{framed};
-ghost use Rattle.entering.specs.Said.{held, Known, Says, Stepped};
-ghost use Rattle.entering.specs.Enters.{EntersType, EntersCtor, EntersSubject, EntersClause, Ended};
+ghost use Rattle.reading.specs.Said.{held, Known, Says, Stepped};
+ghost use Rattle.reading.specs.Enters.{EntersType, EntersCtor, EntersSubject, EntersClause, Ended};
 
 pub enum Step {
     On(State),

@@ -1,9 +1,9 @@
--- `entering::enter_type` meets its contract: from what `add_type` does, and the kind of type.
+-- `reading::line::enter_type` meets its contract: from what `add_type` does, and the kind of type.
 use mathlib.Core.Path.{refl, sym}
-use Rattle.entering.proofs.Numbers.{type-phase-is}
+use Rattle.reading.proofs.Numbers.{type-phase-is}
 use borrow.Author.Needs.{needs}
-use Rattle.entering.proofs.enter_type.Statement.{statement}
-use Rattle.entering.proofs.enter_type.Tie as tie
+use Rattle.reading.proofs.line.enter_type.Statement.{statement}
+use Rattle.reading.proofs.line.enter_type.Tie as tie
 
 add-type-requires : tie.Need-add-type-requires
 add-type-requires c κs =

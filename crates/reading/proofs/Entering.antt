@@ -31,10 +31,10 @@ use Rattle.patterns.specs.declared.Simplified.the-variants.{Row as Kept, Unsuit
 use Rattle.patterns.proofs.Rows.{nodes-closed, left-closed, row-stands, row-kept}
 use Rattle.order.specs.declared.State.{State}
 use Rattle.order.specs.Phases.{phaseOf}
-use Rattle.entering.specs.declared.Step.{Step}
-use Rattle.entering.specs.declared.Step.the-variants.{On, Refused}
-use Rattle.entering.specs.Said.{Held, held, Sized, InPhase, Rows, Says, Stepped, goes, stops}
-use Rattle.entering.specs.Enters.{EntersType, EntersCtor, stale, fresh, EntersSubject, unsound, sound, EntersClause, unsuited, over, row, Ended}
+use Rattle.reading.specs.declared.line.Step.{Step}
+use Rattle.reading.specs.declared.line.Step.the-variants.{On, Refused}
+use Rattle.reading.specs.Said.{Held, held, Sized, InPhase, Rows, Says, Stepped, goes, stops}
+use Rattle.reading.specs.Enters.{EntersType, EntersCtor, stale, fresh, EntersSubject, unsound, sound, EntersClause, unsuited, over, row, Ended}
 
 -- no clause yet
 pub no-rows : (bytes nodes left rows : List ℕ) (count used : ℕ) (table : Table) → count ≡ 0 → used ≡ 0 → Rows bytes nodes left rows count used table []

@@ -1,15 +1,15 @@
--- `entering::enter_clause` meets its contract: 8, 9, or one more row with its terminator.
+-- `reading::line::enter_clause` meets its contract: 8, 9, or one more row with its terminator.
 use mathlib.Core.Path.{refl, sym, _∙_}
 use Prim.Native.Nat.{ℕ}
 use native.Mathlib.Omega.{arith}
 use borrow.Author.Tests.{not-true, not-false}
 use lib.ListN.{length-replicate}
-use Rattle.entering.specs.Enters.{unsuited, over, row}
-use Rattle.entering.proofs.Entering.{simplified-as}
-use Rattle.entering.proofs.Numbers.{nodes-fit}
+use Rattle.reading.specs.Enters.{unsuited, over, row}
+use Rattle.reading.proofs.Entering.{simplified-as}
+use Rattle.reading.proofs.Numbers.{nodes-fit}
 use borrow.Author.Needs.{needs}
-use Rattle.entering.proofs.enter_clause.Statement.{statement}
-use Rattle.entering.proofs.enter_clause.Tie as tie
+use Rattle.reading.proofs.line.enter_clause.Statement.{statement}
+use Rattle.reading.proofs.line.enter_clause.Tie as tie
 
 slice-aggregate-simplify : tie.Need-slice-aggregate-simplify
 slice-aggregate-simplify c =

@@ -13,8 +13,8 @@ use Rattle.patterns.specs.Rows.{Simplifies}
 use Rattle.patterns.specs.declared.Simplified.the-variants.{Row as Kept, Unsuited}
 use Rattle.order.specs.declared.State.{State}
 use Rattle.order.specs.Phases.{Numbers}
-use Rattle.entering.specs.declared.Step.{Step}
-use Rattle.entering.specs.declared.Step.the-variants.{On, Refused}
+use Rattle.reading.specs.declared.line.Step.{Step}
+use Rattle.reading.specs.declared.line.Step.the-variants.{On, Refused}
 
 -- one more type; its kind says which phase is next
 pub record EntersType (bytes : List ℕ) (at : ℕ) (s : State) (kinds counts arities starts fields kinds′ counts′ arities′ starts′ fields′ : List ℕ) (r : State) : Type 0 where

@@ -1,10 +1,10 @@
--- `entering::enter_ctor` meets its contract: fresh or 7, then what `add_ctor` does.
+-- `reading::line::enter_ctor` meets its contract: fresh or 7, then what `add_ctor` does.
 use mathlib.Core.Path.{refl, sym, _∙_}
 use borrow.Author.Tests.{not-true, not-false}
-use Rattle.entering.specs.Enters.{stale, fresh}
+use Rattle.reading.specs.Enters.{stale, fresh}
 use borrow.Author.Needs.{needs}
-use Rattle.entering.proofs.enter_ctor.Statement.{statement}
-use Rattle.entering.proofs.enter_ctor.Tie as tie
+use Rattle.reading.proofs.line.enter_ctor.Statement.{statement}
+use Rattle.reading.proofs.line.enter_ctor.Tie as tie
 
 sub-t : tie.Need-sub-t
 sub-t c =

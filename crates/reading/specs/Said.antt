@@ -13,8 +13,8 @@ use Rattle.table.specs.Build.{EndsInData}
 use Rattle.patterns.specs.Rows.{RowAt}
 use Rattle.order.specs.declared.State.{State}
 use Rattle.order.specs.Phases.{phaseOf}
-use Rattle.entering.specs.declared.Step.{Step}
-use Rattle.entering.specs.declared.Step.the-variants.{On, Refused}
+use Rattle.reading.specs.declared.line.Step.{Step}
+use Rattle.reading.specs.declared.line.Step.the-variants.{On, Refused}
 
 -- the slices: the decoded bytes, the type table's, and the rows'
 pub record Held : Type 0 where

@@ -1,11 +1,11 @@
--- `entering::enter_subject` meets its contract: sound or 7.
+-- `reading::line::enter_subject` meets its contract: sound or 7.
 use mathlib.Core.Path.{refl, _∙_}
 use borrow.Author.Tests.{not-true, not-false}
-use Rattle.entering.specs.Enters.{unsound, sound}
-use Rattle.entering.proofs.Numbers.{subject-bit}
+use Rattle.reading.specs.Enters.{unsound, sound}
+use Rattle.reading.proofs.Numbers.{subject-bit}
 use borrow.Author.Needs.{needs}
-use Rattle.entering.proofs.enter_subject.Statement.{statement}
-use Rattle.entering.proofs.enter_subject.Tie as tie
+use Rattle.reading.proofs.line.enter_subject.Statement.{statement}
+use Rattle.reading.proofs.line.enter_subject.Tie as tie
 
 at8-requires : tie.Need-at8-requires
 at8-requires c κs = search needs

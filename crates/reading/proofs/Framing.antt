@@ -18,7 +18,7 @@ use Rattle.table.proofs.CtorMeans.{last-type, last-declared}
 use Rattle.order.specs.declared.State.{State}
 use Rattle.order.specs.Phases.{standsIn, roomIn}
 use Rattle.admitting.specs.Checked.{checked}
-use Rattle.entering.specs.Said.{Held, InPhase, Says}
+use Rattle.reading.specs.Said.{Held, InPhase, Says}
 
 -- what stands in which phase
 pub at-constructor : (p : Phase) (b : Block) → any (eqb 2) (standing p) ≡ true → InPhase p b → EndsInData (b .table)

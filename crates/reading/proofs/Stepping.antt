@@ -14,16 +14,16 @@ use Rattle.scope.specs.Blocks.{ok, refuse, enter, framed}
 use Rattle.patterns.specs.Rows.{Ready}
 use Rattle.order.specs.declared.State.{State}
 use Rattle.order.specs.Phases.{roomIn}
-use Rattle.entering.specs.declared.Step.{Step}
-use Rattle.entering.specs.declared.Step.the-variants.{On, Refused}
+use Rattle.reading.specs.declared.line.Step.{Step}
+use Rattle.reading.specs.declared.line.Step.the-variants.{On, Refused}
 use Rattle.admitting.specs.declared.Kind.{Kind}
 use Rattle.admitting.specs.declared.Kind as kind
 use Rattle.admitting.specs.Checked.{checked, kindOf}
 use Rattle.admitting.proofs.Checks.{begins}
-use Rattle.entering.specs.Said.{Held, held, Says, Stepped, stops}
-use Rattle.entering.specs.Enters.{EntersType, EntersCtor, EntersSubject, EntersClause, Ended}
-use Rattle.entering.proofs.Framing.{Passed, passed, type-frame, constructor-frame, subject-frame, clause-frame, end-frame, byte-is, framed-is, above, some-type, last-is, sound-clause, sound-end}
-use Rattle.entering.proofs.Entering.{sound-parts, type-steps, ctor-steps, subject-steps, clause-steps, end-steps}
+use Rattle.reading.specs.Said.{Held, held, Says, Stepped, stops}
+use Rattle.reading.specs.Enters.{EntersType, EntersCtor, EntersSubject, EntersClause, Ended}
+use Rattle.reading.proofs.Framing.{Passed, passed, type-frame, constructor-frame, subject-frame, clause-frame, end-frame, byte-is, framed-is, above, some-type, last-is, sound-clause, sound-end}
+use Rattle.reading.proofs.Entering.{sound-parts, type-steps, ctor-steps, subject-steps, clause-steps, end-steps}
 
 -- what room there is, by kind
 room-type : (s : State) (last : ℕ) → roomIn s last 1 ≡ true → s .types < 64

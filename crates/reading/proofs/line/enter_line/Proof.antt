@@ -1,9 +1,9 @@
--- `entering::enter_line` meets its contract: the tests, then what the frame of its kind adds.
+-- `reading::line::enter_line` meets its contract: the tests, then what the frame of its kind adds.
 use native.Mathlib.Omega.{arith}
-use Rattle.entering.proofs.Stepping.{as-kind, as-refused, few-types, few-fields, type-asks, ctor-asks, clause-asks, clause-few, line-refused, type-line, ctor-line, subject-line, clause-line, end-line}
+use Rattle.reading.proofs.Stepping.{as-kind, as-refused, few-types, few-fields, type-asks, ctor-asks, clause-asks, clause-few, line-refused, type-line, ctor-line, subject-line, clause-line, end-line}
 use borrow.Author.Needs.{needs}
-use Rattle.entering.proofs.enter_line.Statement.{statement}
-use Rattle.entering.proofs.enter_line.Tie as tie
+use Rattle.reading.proofs.line.enter_line.Statement.{statement}
+use Rattle.reading.proofs.line.enter_line.Tie as tie
 
 last-ctors-requires : tie.Need-last-ctors-requires
 last-ctors-requires c κs = search needs
