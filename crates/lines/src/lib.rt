@@ -23,9 +23,7 @@ fn gap_word(paste: bool, out: &mut [u8], at: usize) -> usize
     ensures { λ r. ⌜ Wrote (now (out .entry)) (now (out .exit)) at r (cond paste (text "paste ") (text "missing ")) ⌝ }
     ensures { λ r. ⌜ r ≤ at + 16 ⌝ }
 {
-    let word = *b"paste ";
-    let missing = *b"missing ";
-    either(paste, out, at, &word, &missing)
+    either(paste, out, at, b"paste ", b"missing ")
 }
 
 // A line of the missing row at p: the source's text, or the paste text.
