@@ -46,17 +46,20 @@ say-requires c κs =
     (small _ (c .before .before .before .before .before .before .before .before .before .before .before .before .before .before .before .before .before .before .before .before .before .before .before .before .before .before .pre .0) (c .before .before .before .before .before .before .before .before .before .before .walk .last .1 .1 .1 .1 .1 .1 .1 .0) (c .before .before .before .before .before .before .before .before .before .before .walk .last .1 .1 .1 .1 .1 .1 .1 .1 .0) (c .before .before .before .before .w .given .0 .0) (c .before .before .before .before .w .given .0 .1 .0) (c .before .before .before .before .w .given .0 .1 .1 .0) (c .before .before .before .before .w .given .0 .1 .1 .1 .0) (subst (Walked (c .before .before .before .before .before .before .before .before .before .before .before .before .before .before .before .before .before .before .before .before .before .before .before .before .before .before .args .bytes .now) (c .before .before .before .before .before .before .before .before .before .before .before .before .before .before .before .before .before .before .before .before .before .before .before .before .before .before .pre .0 .block) (c .before .before .before .before .before .before .before .before .before .before .walk .last .1 .1 .1 .1 .1 .1 .1 .0) (c .before .before .before .before .before .before .before .before .before .before .walk .last .1 .1 .1 .1 .1 .1 .1 .1 .0)) (c .before .before .before .before .w .given .1) (c .before .before .before .before .before .before .before .before .before .before .walk .ensures .0 (c .before .before .before .before .before .before .before .before .before .before .before .before .before .before .before .before .before .before .before .before .before .before .before .before .before .before .args .kinds .now) (c .before .before .before .before .before .before .before .before .before .before .before .before .before .before .before .before .before .before .before .before .before .before .before .before .before .before .pre .0 .block) (c .before .before .before .before .before .before .before .before .before .before .before .before .before .before .before .before .before .before .before .before .before .before .before .before .before .before .pre .0 .holds .holding))))
 
 same-length : tie.Need-same-length
-same-length c = search needs
+same-length c =
+    c .before .before .before .before .before .before .walk .kept .1 .1 .1 .1 .1 .1 .0
 
 returns : tie.Need-returns
 returns c =
     (λ b h. too-much-work (c .before .before .before .before .before .before .before .before .before .before .before .before .before .before .before .before .before .before .before .before .before .before .args .bytes .now) b (c .before .before .before .before .before .before .walk .last .1 .1 .1 .1 .1 .1 .1 .0) (c .before .before .before .before .before .before .walk .last .1 .1 .1 .1 .1 .1 .1 .1 .0) (length (c .before .before .before .before .before .before .before .before .before .before .before .before .before .before .before .before .before .before .before .before .before .before .args .report .now)) (c .before .before .before .before .before .before .before .before .before .before .before .before .before .before .before .before .before .before .before .before .before .before .args .report .now) _ (subst (Walked (c .before .before .before .before .before .before .before .before .before .before .before .before .before .before .before .before .before .before .before .before .before .before .args .bytes .now) b (c .before .before .before .before .before .before .walk .last .1 .1 .1 .1 .1 .1 .1 .0) (c .before .before .before .before .before .before .walk .last .1 .1 .1 .1 .1 .1 .1 .1 .0)) (c .enum-told .given .1) (c .before .before .before .before .before .before .walk .ensures .0 (c .before .before .before .before .before .before .before .before .before .before .before .before .before .before .before .before .before .before .before .before .before .before .args .kinds .now) b (h .holding))) refl, c .before .before .before .before .before .before .walk .ensures .1)
 
 same-length-2 : tie.Need-same-length-2
-same-length-2 c = search needs
+same-length-2 c =
+    c .before .before .before .before .before .before .before .before .before .before .before .before .before .walk .kept .1 .1 .1 .1 .1 .1 .0
 
 same-length-3 : tie.Need-same-length-3
-same-length-3 c = search needs
+same-length-3 c =
+    c .before .before .say .kept .1 .1 .1 .1 .1 .1 .1 .1 .1 .1 .1 .0
 
 returns-2 : tie.Need-returns-2
 returns-2 c =
