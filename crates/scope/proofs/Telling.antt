@@ -31,6 +31,8 @@ telling =
     record { file = "0106\n0201410000\n0201420000\n010300\n010301\n0302\n04050000\n04050101050101000000\n05\n"; text = "clauses 2 reached 2 never 0\nclause 1 reached\nclause 2 reached\ngaps 1\nmissing [[], ..]\npaste [[], ..]\ncalls 3 4\n" } ∷
     -- a pair of A, B or C: where some are unseen the first column varies fastest
     record { file = "0106\n0201410000\n0201420000\n0201430000\n01050000\n0301\n04070600000000\n04070006000000\n05\n"; text = "clauses 2 reached 2 never 0\nclause 1 reached\nclause 2 reached\ngaps 4\nmissing (B, B)\npaste (B, B)\nmissing (C, B)\npaste (C, B)\nmissing (B, C)\npaste (B, C)\nmissing (C, C)\npaste (C, C)\ncalls 4 4\n" } ∷
+    -- P5: gaps come from all clauses, reached or not
+    record { file = "0106\n0201410000\n0201420000\n01050000\n0301\n04070006000000\n04070600000006000000\n05\n"; text = "clauses 2 reached 1 never 1\nclause 1 reached\nclause 2 never\ngaps 1\nmissing (B, B)\npaste (B, B)\ncalls 5 4\n" } ∷
     -- a wildcard in a complete column: constructors are tried up to the first yes
     record { file = "0106\n0201410000\n0201420000\n01050000\n0301\n04070600000006000000\n04070601000006000000\n04070006010000\n05\n"; text = "clauses 3 reached 3 never 0\nclause 1 reached\nclause 2 reached\nclause 3 reached\ngaps 0\ncalls 8 8\n" } ∷
     -- arity 16; spread with all arguments
