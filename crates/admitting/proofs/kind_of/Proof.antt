@@ -6,18 +6,6 @@ use borrow.Author.Needs.{needs}
 use Rattle.admitting.proofs.kind_of.Statement.{statement}
 use Rattle.admitting.proofs.kind_of.Tie as tie
 
-sub-read-frame : tie.Need-sub-read-frame
-sub-read-frame c = search needs
-
-part-read-frame-start : tie.Need-part-read-frame-start
-part-read-frame-start c = search needs
-
-part-read-frame-end : tie.Need-part-read-frame-end
-part-read-frame-end c = search needs
-
-read-frame-requires : tie.Need-read-frame-requires
-read-frame-requires c κs = search needs
-
 returns : tie.Need-returns
 returns c =
     kind-zero (c .before .before .before .before .args .bytes .now) (c .before .before .before .before .args .at) (c .before .before .before .before .pre .0) (c .before .before .before .before .args .s) (c .before .before .before .before .args .last) (c .before .read-frame .result) (c .before .read-frame .ensures) (c .if1 .taken)
@@ -26,25 +14,13 @@ returns-2 : tie.Need-returns-2
 returns-2 c =
     kind-over (c .before .before .before .before .before .args .bytes .now) (c .before .before .before .before .before .args .at) (c .before .before .before .before .before .pre .0) (c .before .before .before .before .before .args .s) (c .before .before .before .before .before .args .last) (c .before .before .read-frame .result) (c .before .before .read-frame .ensures) (c .if2 .taken)
 
-stands-requires : tie.Need-stands-requires
-stands-requires c κs = search needs
-
 returns-3 : tie.Need-returns-3
 returns-3 c =
     out-of-place (c .before .before .before .before .before .before .before .args .bytes .now) (c .before .before .before .before .before .before .before .args .at) (c .before .before .before .before .before .before .before .pre .0) (c .before .before .before .before .before .before .before .args .s) (c .before .before .before .before .before .before .before .args .last) (c .before .before .before .before .read-frame .result) (c .before .before .before .before .read-frame .ensures) (c .before .before .before .if1 .left) (c .before .before .if2 .left) (sym (c .before .stands .ensures) ∙ not-true _ (c .if3 .taken))
 
-has-room-requires : tie.Need-has-room-requires
-has-room-requires c κs = search needs
-
 returns-4 : tie.Need-returns-4
 returns-4 c =
     too-many (c .before .before .before .before .before .before .before .before .before .args .bytes .now) (c .before .before .before .before .before .before .before .before .before .args .at) (c .before .before .before .before .before .before .before .before .before .pre .0) (c .before .before .before .before .before .before .before .before .before .args .s) (c .before .before .before .before .before .before .before .before .before .args .last) (c .before .before .before .before .before .before .read-frame .result) (c .before .before .before .before .before .before .read-frame .ensures) (c .before .before .before .before .before .if1 .left) (c .before .before .before .before .if2 .left) (sym (c .before .before .before .stands .ensures) ∙ not-false _ (c .before .before .if3 .left)) (sym (c .before .has-room .ensures) ∙ not-true _ (c .if4 .taken))
-
-enum-told : tie.Need-enum-told
-enum-told c = search needs
-
-enum-told-2 : tie.Need-enum-told-2
-enum-told-2 c = search needs
 
 returns-5 : tie.Need-returns-5
 returns-5 c =
@@ -58,17 +34,17 @@ pub kind-of-spec : {M : Type 1} → statement M
 kind-of-spec =
     tie.close
     (tie.spec
-    sub-read-frame
-    part-read-frame-start
-    part-read-frame-end
-    read-frame-requires
+    (λ c. search needs)
+    (λ c. search needs)
+    (λ c. search needs)
+    (λ c κs. search needs)
     returns
     returns-2
-    stands-requires
+    (λ c κs. search needs)
     returns-3
-    has-room-requires
+    (λ c κs. search needs)
     returns-4
-    enum-told
-    enum-told-2
+    (λ c. search needs)
+    (λ c. search needs)
     returns-5
     returns-6)

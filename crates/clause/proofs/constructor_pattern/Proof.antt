@@ -6,21 +6,6 @@ use borrow.Author.Needs.{needs}
 use Rattle.clause.proofs.constructor_pattern.Statement.{statement}
 use Rattle.clause.proofs.constructor_pattern.Tie as tie
 
-flagged-requires : tie.Need-flagged-requires
-flagged-requires c κs = search needs
-
-add-at8 : tie.Need-add-at8
-add-at8 c = search needs
-
-at8-requires : tie.Need-at8-requires
-at8-requires c κs = search needs
-
-wide8-requires : tie.Need-wide8-requires
-wide8-requires c κs = search needs
-
-leaving-requires : tie.Need-leaving-requires
-leaving-requires c κs = search needs
-
 returns : tie.Need-returns
 returns c =
     (ctor-read (c .before .before .before .before .before .args .bytes .now) (c .before .before .before .before .before .args .at) (c .before .wide8 .result) (c .before .before .before .flagged .result) (c .leaving .result) (c .leaving .ensures) (c .before .wide8 .ensures ∙ c .before .before .at8 .ensures) (c .before .before .before .flagged .ensures), few-left (c .before .wide8 .result) (c .leaving .result) (c .before .before .before .flagged .result) (omega (arith, c .before .wide8 .ensures, c .before .before .at8 .ok)) (c .leaving .ensures))
@@ -28,4 +13,4 @@ returns c =
 pub constructor-pattern-spec : {M : Type 1} → statement M
 constructor-pattern-spec =
     tie.close
-    (tie.spec flagged-requires add-at8 at8-requires wide8-requires leaving-requires returns)
+    (tie.spec (λ c κs. search needs) (λ c. search needs) (λ c κs. search needs) (λ c κs. search needs) (λ c κs. search needs) returns)

@@ -9,15 +9,6 @@ bytes-read : (c : tie.After-t) → Skipped (c .before .before .before .before .a
 bytes-read c =
     skipped (c .before .before .before .before .args .n) (c .before .before .before .before .args .bytes .now) (c .before .before .before .before .args .at) (c .t .given .0 .0) (c .before .before .skip .result) (c .before .before .before .before .pre) (c .before .before .skip .ensures) (c .t .given .1)
 
-skip-requires : tie.Need-skip-requires
-skip-requires c κs = search needs
-
-enum-known-t : tie.Need-enum-known-t
-enum-known-t c = search needs
-
-enum-told : tie.Need-enum-told
-enum-told c = search needs
-
 returns : tie.Need-returns
 returns c =
     flagged-short (c .before .before .before .before .args .n) (c .before .before .before .before .args .bytes .now) (c .before .before .before .before .args .at) (c .before .before .skip .result) (c .enum-told .given .0 .0) (c .before .before .skip .ensures) (c .enum-told .given .1)
@@ -32,4 +23,4 @@ returns-2 c =
 
 pub flagged-spec : {M : Type 1} → statement M
 flagged-spec =
-    tie.close (tie.spec skip-requires enum-known-t enum-told returns within-requires returns-2)
+    tie.close (tie.spec (λ c κs. search needs) (λ c. search needs) (λ c. search needs) returns within-requires returns-2)

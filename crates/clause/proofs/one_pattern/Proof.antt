@@ -18,45 +18,6 @@ returns : tie.Need-returns
 returns c =
     (pattern-end (c .before .before .args .bytes .now) (c .before .before .args .at) (c .before .before .pre) (c .if1 .taken), omega arith)
 
-add-from : tie.Need-add-from
-add-from c = search needs
-
-shared-slice-read-kind : tie.Need-shared-slice-read-kind
-shared-slice-read-kind c = search needs
-
-name-requires : tie.Need-name-requires
-name-requires c κs = search needs
-
-leaving-requires : tie.Need-leaving-requires
-leaving-requires c κs = search needs
-
-name-requires-2 : tie.Need-name-requires-2
-name-requires-2 c κs = search needs
-
-leaving-requires-2 : tie.Need-leaving-requires-2
-leaving-requires-2 c κs = search needs
-
-text-requires : tie.Need-text-requires
-text-requires c κs = search needs
-
-leaving-requires-3 : tie.Need-leaving-requires-3
-leaving-requires-3 c κs = search needs
-
-text-requires-2 : tie.Need-text-requires-2
-text-requires-2 c κs = search needs
-
-leaving-requires-4 : tie.Need-leaving-requires-4
-leaving-requires-4 c κs = search needs
-
-list-pattern-requires : tie.Need-list-pattern-requires
-list-pattern-requires c κs = search needs
-
-constructor-pattern-requires : tie.Need-constructor-pattern-requires
-constructor-pattern-requires c κs = search needs
-
-tuple-pattern-requires : tie.Need-tuple-pattern-requires
-tuple-pattern-requires c κs = search needs
-
 returns-2 : tie.Need-returns-2
 returns-2 c =
     (found-pattern (c .before .before .before .before .args .bytes .now) (c .before .before .before .before .args .at + 1) discard (omega arith) ∙ pattern-at (c .before .before .before .before .args .bytes .now) (c .before .before .before .before .args .at) 0 (c .before .before .if1 .left) (c .match .keys1), omega arith)
@@ -103,19 +64,19 @@ one-pattern-spec =
     tie.close
     (tie.spec
     returns
-    add-from
-    shared-slice-read-kind
-    name-requires
-    leaving-requires
-    name-requires-2
-    leaving-requires-2
-    text-requires
-    leaving-requires-3
-    text-requires-2
-    leaving-requires-4
-    list-pattern-requires
-    constructor-pattern-requires
-    tuple-pattern-requires
+    (λ c. search needs)
+    (λ c. search needs)
+    (λ c κs. search needs)
+    (λ c κs. search needs)
+    (λ c κs. search needs)
+    (λ c κs. search needs)
+    (λ c κs. search needs)
+    (λ c κs. search needs)
+    (λ c κs. search needs)
+    (λ c κs. search needs)
+    (λ c κs. search needs)
+    (λ c κs. search needs)
+    (λ c κs. search needs)
     returns-2
     returns-3
     returns-4

@@ -6,22 +6,10 @@ use borrow.Author.Needs.{needs}
 use Rattle.clause.proofs.tuple_pattern.Statement.{statement}
 use Rattle.clause.proofs.tuple_pattern.Tie as tie
 
-byte-requires : tie.Need-byte-requires
-byte-requires c κs = search needs
-
-at8-requires : tie.Need-at8-requires
-at8-requires c κs = search needs
-
-wide8-requires : tie.Need-wide8-requires
-wide8-requires c κs = search needs
-
-leaving-requires : tie.Need-leaving-requires
-leaving-requires c κs = search needs
-
 returns : tie.Need-returns
 returns c =
     (tuple-read (c .before .before .before .before .before .args .bytes .now) (c .before .before .before .before .before .args .at) (c .before .wide8 .result) (c .before .before .before .byte .result) (c .leaving .result) (c .leaving .ensures) (c .before .wide8 .ensures ∙ c .before .before .at8 .ensures) (c .before .before .before .byte .ensures), few-left (c .before .wide8 .result) (c .leaving .result) (c .before .before .before .byte .result) (omega (arith, c .before .wide8 .ensures, c .before .before .at8 .ok)) (c .leaving .ensures))
 
 pub tuple-pattern-spec : {M : Type 1} → statement M
 tuple-pattern-spec =
-    tie.close (tie.spec byte-requires at8-requires wide8-requires leaving-requires returns)
+    tie.close (tie.spec (λ c κs. search needs) (λ c κs. search needs) (λ c κs. search needs) (λ c κs. search needs) returns)

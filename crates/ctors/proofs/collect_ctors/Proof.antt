@@ -7,22 +7,10 @@ use borrow.Author.Needs.{needs}
 use Rattle.ctors.proofs.collect_ctors.Statement.{statement}
 use Rattle.ctors.proofs.collect_ctors.Tie as tie
 
-first-requires : tie.Need-first-requires
-first-requires c κs = search needs
-
 returns : tie.Need-returns
 returns c =
     let a = c .before .before .before .before .before .before .args in
     ctors-none (a .counts .now) (map (headAt (a .nodes .now) (a .left .now) (a .n)) (a .ps .now)) (c .before .first .result) (c .before .first .ensures) (c .if1 .taken)
-
-base-requires : tie.Need-base-requires
-base-requires c κs = search needs
-
-count-requires : tie.Need-count-requires
-count-requires c κs = search needs
-
-seen-requires : tie.Need-seen-requires
-seen-requires c κs = search needs
 
 all-requires : tie.Need-all-requires
 all-requires c κs =
@@ -52,11 +40,11 @@ pub collect-ctors-spec : {M : Type 1} → statement M
 collect-ctors-spec =
     tie.close
     (tie.spec
-    first-requires
+    (λ c κs. search needs)
     returns
-    base-requires
-    count-requires
-    seen-requires
+    (λ c κs. search needs)
+    (λ c κs. search needs)
+    (λ c κs. search needs)
     all-requires
     returns-2
     unseen-requires

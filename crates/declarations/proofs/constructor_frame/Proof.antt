@@ -12,15 +12,6 @@ name-read : (c : tie.After-n) → Reached bigName (c .before .before .before .be
 name-read c =
     reached bigName (name-keeps true) (c .before .before .before .before .args .bytes .now) (c .before .before .before .before .args .at) (c .n .given .0 .0) (c .before .before .name .result) (c .before .before .before .before .pre) (c .before .before .name .ensures) (c .n .given .1)
 
-name-requires : tie.Need-name-requires
-name-requires c κs = search needs
-
-enum-known-n : tie.Need-enum-known-n
-enum-known-n c = search needs
-
-enum-told : tie.Need-enum-told
-enum-told c = search needs
-
 returns : tie.Need-returns
 returns c =
     constructor-name (c .before .before .before .before .args .bytes .now) (c .before .before .before .before .args .at) (c .before .before .name .result) (c .enum-told .given .0 .0) (c .before .before .name .ensures) (c .enum-told .given .1)
@@ -35,4 +26,4 @@ returns-2 c =
 
 pub constructor-frame-spec : {M : Type 1} → statement M
 constructor-frame-spec =
-    tie.close (tie.spec name-requires enum-known-n enum-told returns fields-requires returns-2)
+    tie.close (tie.spec (λ c κs. search needs) (λ c. search needs) (λ c. search needs) returns fields-requires returns-2)

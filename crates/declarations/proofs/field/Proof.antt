@@ -10,15 +10,6 @@ type-read : (c : tie.After-t) → Passed any (c .before .before .before .before 
 type-read c =
     byte-passed (c .before .before .before .before .args .bytes .now) (c .before .before .before .before .args .at) (c .t .given .0 .0) (c .before .before .byte .result) (c .before .before .before .before .pre) (c .before .before .byte .ensures) (c .t .given .1)
 
-byte-requires : tie.Need-byte-requires
-byte-requires c κs = search needs
-
-enum-known-t : tie.Need-enum-known-t
-enum-known-t c = search needs
-
-enum-told : tie.Need-enum-told
-enum-told c = search needs
-
 returns : tie.Need-returns
 returns c =
     field-type (c .before .before .before .before .args .bytes .now) (c .before .before .before .before .args .at) (c .before .before .byte .result) (c .enum-told .given .0 .0) (c .before .before .byte .ensures) (c .enum-told .given .1)
@@ -34,4 +25,4 @@ returns-2 c =
 
 pub field-spec : {M : Type 1} → statement M
 field-spec =
-    tie.close (tie.spec byte-requires enum-known-t enum-told returns name-requires returns-2)
+    tie.close (tie.spec (λ c κs. search needs) (λ c. search needs) (λ c. search needs) returns name-requires returns-2)

@@ -17,15 +17,6 @@ arity-read c =
     let x = flag-read (c .before .before .before .before .before) in
     passed (among (getD (c .before .before .before .before .before .before .before .before .before .args .bytes .now) (c .before .before .before .before .before .before .before .before .before .args .at) 0) 16) (c .before .before .before .before .before .before .before .before .before .args .bytes .now) (c .before .before .before .before .before .f .given .0 .0) (c .n .given .0 .0) (c .before .before .within2 .result) (omega arith) (c .before .before .within2 .ensures) (c .n .given .1)
 
-within-requires : tie.Need-within-requires
-within-requires c κs = search needs
-
-enum-known-f : tie.Need-enum-known-f
-enum-known-f c = search needs
-
-enum-told : tie.Need-enum-told
-enum-told c = search needs
-
 returns : tie.Need-returns
 returns c =
     fields-flag (c .before .before .before .before .args .bytes .now) (c .before .before .before .before .args .at) (c .before .before .within .result) (c .enum-told .given .0 .0) (c .before .before .within .ensures) (c .enum-told .given .1)
@@ -39,12 +30,6 @@ within-requires-2 c κs =
     let x = flag-read (c .before .before) in
     omega arith
 
-enum-known-n : tie.Need-enum-known-n
-enum-known-n c = search needs
-
-enum-told-2 : tie.Need-enum-told-2
-enum-told-2 c = search needs
-
 returns-2 : tie.Need-returns-2
 returns-2 c =
     fields-arity (c .before .before .before .before .before .before .before .before .before .args .bytes .now) (c .before .before .before .before .before .before .before .before .before .args .at) (c .before .before .within2 .result) (c .before .before .before .before .before .f .given .0 .0) (c .enum-told2 .given .0 .0) (flag-read (c .before .before .before .before .before)) (c .before .before .within2 .ensures) (c .enum-told2 .given .1)
@@ -52,9 +37,6 @@ returns-2 c =
 shared-slice-read-wide8 : tie.Need-shared-slice-read-wide8
 shared-slice-read-wide8 c =
     arity-read (c .before .before) .inside
-
-wide8-requires : tie.Need-wide8-requires
-wide8-requires c κs = search needs
 
 skip-requires : tie.Need-skip-requires
 skip-requires c κs =
@@ -78,17 +60,17 @@ pub fields-spec : {M : Type 1} → statement M
 fields-spec =
     tie.close
     (tie.spec
-    within-requires
-    enum-known-f
-    enum-told
+    (λ c κs. search needs)
+    (λ c. search needs)
+    (λ c. search needs)
     returns
     shared-slice-read-labels
     within-requires-2
-    enum-known-n
-    enum-told-2
+    (λ c. search needs)
+    (λ c. search needs)
     returns-2
     shared-slice-read-wide8
-    wide8-requires
+    (λ c κs. search needs)
     skip-requires
     returns-3
     labelled-requires

@@ -11,15 +11,6 @@ count-read : (c : tie.After-n) → Passed (among 2 16) (c .before .before .befor
 count-read c =
     passed (among 2 16) (c .before .before .before .before .args .bytes .now) (c .before .before .before .before .args .at) (c .n .given .0 .0) (c .before .before .within .result) (c .before .before .before .before .pre) (c .before .before .within .ensures) (c .n .given .1)
 
-within-requires : tie.Need-within-requires
-within-requires c κs = search needs
-
-enum-known-n : tie.Need-enum-known-n
-enum-known-n c = search needs
-
-enum-told : tie.Need-enum-told
-enum-told c = search needs
-
 returns : tie.Need-returns
 returns c =
     counted-count (c .before .before .before .before .args .bytes .now) (c .before .before .before .before .args .at) (c .before .before .within .result) (c .enum-told .given .0 .0) (c .before .before .within .ensures) (c .enum-told .given .1)
@@ -27,9 +18,6 @@ returns c =
 shared-slice-read-wide8 : tie.Need-shared-slice-read-wide8
 shared-slice-read-wide8 c =
     count-read (c .before .before) .inside
-
-wide8-requires : tie.Need-wide8-requires
-wide8-requires c κs = search needs
 
 skip-requires : tie.Need-skip-requires
 skip-requires c κs =
@@ -44,11 +32,11 @@ pub tuple-type-spec : {M : Type 1} → statement M
 tuple-type-spec =
     tie.close
     (tie.spec
-    within-requires
-    enum-known-n
-    enum-told
+    (λ c κs. search needs)
+    (λ c. search needs)
+    (λ c. search needs)
     returns
     shared-slice-read-wide8
-    wide8-requires
+    (λ c κs. search needs)
     skip-requires
     returns-2)

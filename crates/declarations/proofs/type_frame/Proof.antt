@@ -9,21 +9,6 @@ returns : tie.Need-returns
 returns c =
     type-end (c .before .before .args .bytes .now) (c .before .before .args .at) (c .before .before .pre) (c .if1 .taken)
 
-add-from : tie.Need-add-from
-add-from c = search needs
-
-shared-slice-read-kind : tie.Need-shared-slice-read-kind
-shared-slice-read-kind c = search needs
-
-byte-requires : tie.Need-byte-requires
-byte-requires c κs = search needs
-
-tuple-type-requires : tie.Need-tuple-type-requires
-tuple-type-requires c κs = search needs
-
-skip-requires : tie.Need-skip-requires
-skip-requires c κs = search needs
-
 returns-2 : tie.Need-returns-2
 returns-2 c =
     type-integer (c .before .before .before .before .args .bytes .now) (c .before .before .before .before .args .at) (c .before .before .if1 .left) (c .match .keys1)
@@ -62,11 +47,11 @@ type-frame-spec =
     tie.close
     (tie.spec
     returns
-    add-from
-    shared-slice-read-kind
-    byte-requires
-    tuple-type-requires
-    skip-requires
+    (λ c. search needs)
+    (λ c. search needs)
+    (λ c κs. search needs)
+    (λ c κs. search needs)
+    (λ c κs. search needs)
     returns-2
     returns-3
     returns-4

@@ -14,15 +14,6 @@ read-requires : tie.Need-read-requires
 read-requires c κs =
     (omega (arith, length-replicate {A = ℕ} 24576 0), record { kindsLong = length-replicate {A = ℕ} 64 0; countsLong = length-replicate {A = ℕ} 64 0; aritiesLong = length-replicate {A = ℕ} 2048 0; startsLong = length-replicate {A = ℕ} 2048 0; namesLong = length-replicate {A = ℕ} 2048 0; fieldsLong = length-replicate {A = ℕ} 5120 0; labelsLong = length-replicate {A = ℕ} 5120 0; nodesLong = length-replicate {A = ℕ} 4160 0; leftLong = length-replicate {A = ℕ} 4160 0; rowsLong = length-replicate {A = ℕ} 64 0 })
 
-enum-known-p : tie.Need-enum-known-p
-enum-known-p c = search needs
-
-clear-requires : tie.Need-clear-requires
-clear-requires c κs = search needs
-
-enum-known-p-2 : tie.Need-enum-known-p-2
-enum-known-p-2 c = search needs
-
 array-share-prefix-rows : tie.Need-array-share-prefix-rows
 array-share-prefix-rows c =
     few-read (c .before .before .before .before .before .before .before .before .before .before .before .before .before .before .before .before .before .before .before .before .before .before .before .before .before .before .before .args .file .now) (held (c .before .before .before .before .before .before .before .before .before .before .before .before .read .last .1 .0) (c .before .before .before .before .before .before .before .before .before .before .before .before .read .last .1 .1 .0) (c .before .before .before .before .before .before .before .before .before .before .before .before .read .last .1 .1 .1 .0) (c .before .before .before .before .before .before .before .before .before .before .before .before .read .last .1 .1 .1 .1 .0) (c .before .before .before .before .before .before .before .before .before .before .before .before .read .last .1 .1 .1 .1 .1 .0) (c .before .before .before .before .before .before .before .before .before .before .before .before .read .last .1 .1 .1 .1 .1 .1 .0) (c .before .before .before .before .before .before .before .before .before .before .before .before .read .last .1 .1 .1 .1 .1 .1 .1 .0) (c .before .before .before .before .before .before .before .before .before .before .before .before .read .last .1 .1 .1 .1 .1 .1 .1 .1 .0) (c .before .before .before .before .before .before .before .before .before .before .before .before .read .last .1 .1 .1 .1 .1 .1 .1 .1 .1 .0) (c .before .before .before .before .before .before .before .before .before .before .before .before .read .last .1 .1 .1 .1 .1 .1 .1 .1 .1 .1 .0) (c .before .before .before .before .before .before .before .before .before .before .before .before .read .last .1 .1 .1 .1 .1 .1 .1 .1 .1 .1 .1 .0)) (c .before .before .before .before .before .before .before .before .before .before .before .before .read .result) (c .before .before .before .before .before .before .before .before .before .before .before .before .read .ensures) (c .before .before .before .before .before .before .before .before .before .before .p2 .given .0 .0) (c .before .before .before .before .before .before .before .before .before .before .p2 .given .0 .1 .0) (c .before .before .before .before .before .before .before .before .before .before .p2 .given .0 .1 .1 .0) (c .before .before .before .before .before .before .before .before .before .before .p2 .given .1)
@@ -60,9 +51,9 @@ answer-spec =
     tie.close
     (tie.spec
     read-requires
-    enum-known-p
-    clear-requires
-    enum-known-p-2
+    (λ c. search needs)
+    (λ c κs. search needs)
+    (λ c. search needs)
     array-share-prefix-rows
     slice-aggregate-block-answer
     block-answer-requires

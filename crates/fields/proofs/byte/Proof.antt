@@ -9,12 +9,9 @@ returns : tie.Need-returns
 returns c =
     passing-ends any (c .before .args .bytes .now) (c .before .args .at) (c .before .pre) (c .if1 .taken) ∙ byte-at (c .before .args .bytes .now) (c .before .args .at)
 
-add-t3 : tie.Need-add-t3
-add-t3 c = search needs
-
 returns-2 : tie.Need-returns-2
 returns-2 c =
     passing-goes any (c .before .args .bytes .now) (c .before .args .at) (c .if1 .left) refl ∙ byte-at (c .before .args .bytes .now) (c .before .args .at)
 
 pub byte-spec : {M : Type 1} → statement M
-byte-spec = tie.close (tie.spec returns add-t3 returns-2)
+byte-spec = tie.close (tie.spec returns (λ c. search needs) returns-2)

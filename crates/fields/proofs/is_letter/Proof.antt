@@ -5,29 +5,17 @@ use borrow.Author.Needs.{needs}
 use Rattle.fields.proofs.is_letter.Statement.{statement}
 use Rattle.fields.proofs.is_letter.Tie as tie
 
-is-upper-requires : tie.Need-is-upper-requires
-is-upper-requires c κs = search needs
-
 returns : tie.Need-returns
 returns c =
     c .is-upper .ensures ∙ ap₂ (λ x y. letterOf x y (c .before .before .before .args .b)) (sym (c .before .if2 .taken)) (sym (c .before .before .if1 .taken))
-
-is-lower-requires : tie.Need-is-lower-requires
-is-lower-requires c κs = search needs
 
 returns-2 : tie.Need-returns-2
 returns-2 c =
     c .is-lower .ensures ∙ ap₂ (λ x y. letterOf x y (c .before .before .before .args .b)) (sym (c .before .if2 .left)) (sym (c .before .before .if1 .taken))
 
-is-big-requires : tie.Need-is-big-requires
-is-big-requires c κs = search needs
-
 returns-3 : tie.Need-returns-3
 returns-3 c =
     c .is-big .ensures ∙ ap₂ (λ x y. letterOf x y (c .before .before .before .args .b)) (sym (c .before .if3 .taken)) (sym (c .before .before .if1 .left))
-
-is-small-requires : tie.Need-is-small-requires
-is-small-requires c κs = search needs
 
 returns-4 : tie.Need-returns-4
 returns-4 c =
@@ -37,11 +25,11 @@ pub is-letter-spec : {M : Type 1} → statement M
 is-letter-spec =
     tie.close
     (tie.spec
-    is-upper-requires
+    (λ c κs. search needs)
     returns
-    is-lower-requires
+    (λ c κs. search needs)
     returns-2
-    is-big-requires
+    (λ c κs. search needs)
     returns-3
-    is-small-requires
+    (λ c κs. search needs)
     returns-4)

@@ -11,18 +11,9 @@ returns : tie.Need-returns
 returns c =
     passing-ends (letterOf (c .before .before .args .big) (c .before .before .args .first)) (c .before .before .args .bytes .now) (c .before .before .args .at) (c .before .before .pre) (c .if1 .taken)
 
-shared-slice-read-is-letter : tie.Need-shared-slice-read-is-letter
-shared-slice-read-is-letter c = search needs
-
-is-letter-requires : tie.Need-is-letter-requires
-is-letter-requires c κs = search needs
-
 returns-2 : tie.Need-returns-2
 returns-2 c =
     passing-stops (letterOf (c .before .before .before .before .before .args .big) (c .before .before .before .before .before .args .first)) (c .before .before .before .before .before .args .bytes .now) (c .before .before .before .before .before .args .at) (c .before .before .before .if1 .left) (sym (c .before .is-letter .ensures) ∙ not-true _ (c .if2 .taken))
-
-add-t5 : tie.Need-add-t5
-add-t5 c = search needs
 
 returns-3 : tie.Need-returns-3
 returns-3 c =
@@ -31,4 +22,4 @@ returns-3 c =
 pub letter-spec : {M : Type 1} → statement M
 letter-spec =
     tie.close
-    (tie.spec returns shared-slice-read-is-letter is-letter-requires returns-2 add-t5 returns-3)
+    (tie.spec returns (λ c. search needs) (λ c κs. search needs) returns-2 (λ c. search needs) returns-3)

@@ -20,15 +20,6 @@ first-read c =
     let x = length-read (c .before .before .before .before) in
     passed (letterOf (c .before .before .before .before .before .before .before .before .args .big) true) (c .before .before .before .before .before .before .before .before .args .bytes .now) (c .before .before .before .before .n .given .0 .0) (c .f .given .0 .0) (c .before .before .letter .result) (omega arith) (c .before .before .letter .ensures) (c .f .given .1)
 
-within-requires : tie.Need-within-requires
-within-requires c κs = search needs
-
-enum-known-n : tie.Need-enum-known-n
-enum-known-n c = search needs
-
-enum-told : tie.Need-enum-told
-enum-told c = search needs
-
 returns : tie.Need-returns
 returns c =
     name-length (c .before .before .before .before .args .big) (c .before .before .before .before .args .bytes .now) (c .before .before .before .before .args .at) (c .before .before .within .result) (c .enum-told .given .0 .0) (c .before .before .within .ensures) (c .enum-told .given .1)
@@ -38,12 +29,6 @@ letter-requires c κs =
     let x = length-read (c .before) in
     omega arith
 
-enum-known-f : tie.Need-enum-known-f
-enum-known-f c = search needs
-
-enum-told-2 : tie.Need-enum-told-2
-enum-told-2 c = search needs
-
 returns-2 : tie.Need-returns-2
 returns-2 c =
     name-first (c .before .before .before .before .before .before .before .before .args .big) (c .before .before .before .before .before .before .before .before .args .bytes .now) (c .before .before .before .before .before .before .before .before .args .at) (c .before .before .letter .result) (c .before .before .before .before .n .given .0 .0) (c .enum-told2 .given .0 .0) (length-read (c .before .before .before .before)) (c .before .before .letter .ensures) (c .enum-told2 .given .1)
@@ -51,9 +36,6 @@ returns-2 c =
 shared-slice-read-wide8 : tie.Need-shared-slice-read-wide8
 shared-slice-read-wide8 c =
     length-read (c .before .before .before .before .before .before) .inside
-
-wide8-requires : tie.Need-wide8-requires
-wide8-requires c κs = search needs
 
 sub-letters : tie.Need-sub-letters
 sub-letters c =
@@ -72,16 +54,16 @@ pub name-spec : {M : Type 1} → statement M
 name-spec =
     tie.close
     (tie.spec
-    within-requires
-    enum-known-n
-    enum-told
+    (λ c κs. search needs)
+    (λ c. search needs)
+    (λ c. search needs)
     returns
     letter-requires
-    enum-known-f
-    enum-told-2
+    (λ c. search needs)
+    (λ c. search needs)
     returns-2
     shared-slice-read-wide8
-    wide8-requires
+    (λ c κs. search needs)
     sub-letters
     letters-requires
     returns-3)

@@ -4,19 +4,13 @@ use borrow.Author.Needs.{needs}
 use Rattle.fields.proofs.skip.Statement.{statement}
 use Rattle.fields.proofs.skip.Tie as tie
 
-sub-if1 : tie.Need-sub-if1
-sub-if1 c = search needs
-
 returns : tie.Need-returns
 returns c =
     bytes-stop (c .before .args .n) (c .before .args .bytes .now) (c .before .args .at) (c .before .pre) (c .if1 .taken)
-
-add-t4 : tie.Need-add-t4
-add-t4 c = search needs
 
 returns-2 : tie.Need-returns-2
 returns-2 c =
     bytes-go (c .before .args .n) (c .before .args .bytes .now) (c .before .args .at) (c .before .pre) (c .if1 .left)
 
 pub skip-spec : {M : Type 1} → statement M
-skip-spec = tie.close (tie.spec sub-if1 returns add-t4 returns-2)
+skip-spec = tie.close (tie.spec (λ c. search needs) returns (λ c. search needs) returns-2)

@@ -30,15 +30,6 @@ judged-by c =
     let w : c .before .before .before .before .before .before .before .wide8 .result ≡ c .before .before .before .before .t .given .0 .0 - c .before .before .before .before .before .before .before .before .before .before .n .given .0 .0 = omega arith in
     ap (λ (k : ℕ). isDecimal (take k (drop (c .before .before .before .before .before .before .before .before .before .before .n .given .0 .0) (c .before .before .before .before .before .before .before .before .before .before .before .before .before .before .args .bytes .now)))) w ∙ sym (c .is-decimal .ensures)
 
-within-requires : tie.Need-within-requires
-within-requires c κs = search needs
-
-enum-known-n : tie.Need-enum-known-n
-enum-known-n c = search needs
-
-enum-told : tie.Need-enum-told
-enum-told c = search needs
-
 returns : tie.Need-returns
 returns c =
     text-length (c .before .before .before .before .args .lo) (judged (c .before .before .before .before .args .decimal)) (c .before .before .before .before .args .bytes .now) (c .before .before .before .before .args .at) (c .before .before .within .result) (c .enum-told .given .0 .0) (c .before .before .within .ensures) (c .enum-told .given .1)
@@ -47,19 +38,10 @@ shared-slice-read-wide8 : tie.Need-shared-slice-read-wide8
 shared-slice-read-wide8 c =
     length-read (c .before .before) .inside
 
-wide8-requires : tie.Need-wide8-requires
-wide8-requires c κs = search needs
-
 skip-requires : tie.Need-skip-requires
 skip-requires c κs =
     let x = length-read (c .before .before .before) in
     omega arith
-
-enum-known-t : tie.Need-enum-known-t
-enum-known-t c = search needs
-
-enum-told-2 : tie.Need-enum-told-2
-enum-told-2 c = search needs
 
 returns-2 : tie.Need-returns-2
 returns-2 c =
@@ -84,9 +66,6 @@ part-is-decimal-end : tie.Need-part-is-decimal-end
 part-is-decimal-end c =
     bytes-read (c .before .before) .inside
 
-is-decimal-requires : tie.Need-is-decimal-requires
-is-decimal-requires c κs = search needs
-
 returns-4 : tie.Need-returns-4
 returns-4 c =
     text-bad (c .before .before .before .before .before .before .before .before .before .before .before .before .before .before .before .args .lo) isDecimal (c .before .before .before .before .before .before .before .before .before .before .before .before .before .before .before .args .bytes .now) (c .before .before .before .before .before .before .before .before .before .before .before .before .before .before .before .args .at) (Fault (c .before .before .before .before .before .before .before .before .before .before .before .n .given .0 .0)) (c .before .before .before .before .before .before .before .before .before .before .before .n .given .0 .0) (c .before .before .before .before .before .before .before .before .wide8 .result) (c .before .before .before .before .before .t .given .0 .0) (length-read (c .before .before .before .before .before .before .before .before .before .before .before)) (c .before .before .before .before .before .before .before .before .wide8 .ensures) (bytes-read (c .before .before .before .before .before)) (judged-by (c .before) ∙ not-true _ (c .if2 .taken)) refl
@@ -101,20 +80,20 @@ pub text-spec : {M : Type 1} → statement M
 text-spec =
     tie.close
     (tie.spec
-    within-requires
-    enum-known-n
-    enum-told
+    (λ c κs. search needs)
+    (λ c. search needs)
+    (λ c. search needs)
     returns
     shared-slice-read-wide8
-    wide8-requires
+    (λ c κs. search needs)
     skip-requires
-    enum-known-t
-    enum-told-2
+    (λ c. search needs)
+    (λ c. search needs)
     returns-2
     returns-3
     sub-is-decimal
     part-is-decimal-start
     part-is-decimal-end
-    is-decimal-requires
+    (λ c κs. search needs)
     returns-4
     returns-5)

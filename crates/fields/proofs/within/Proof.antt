@@ -11,18 +11,9 @@ returns : tie.Need-returns
 returns c =
     passing-ends (among (c .before .before .args .lo) (c .before .before .args .hi)) (c .before .before .args .bytes .now) (c .before .before .args .at) (c .before .before .pre) (c .if1 .taken)
 
-shared-slice-read-among : tie.Need-shared-slice-read-among
-shared-slice-read-among c = search needs
-
-among-requires : tie.Need-among-requires
-among-requires c κs = search needs
-
 returns-2 : tie.Need-returns-2
 returns-2 c =
     passing-stops (among (c .before .before .before .before .before .args .lo) (c .before .before .before .before .before .args .hi)) (c .before .before .before .before .before .args .bytes .now) (c .before .before .before .before .before .args .at) (c .before .before .before .if1 .left) (sym (c .before .among .ensures) ∙ not-true _ (c .if2 .taken))
-
-add-t5 : tie.Need-add-t5
-add-t5 c = search needs
 
 returns-3 : tie.Need-returns-3
 returns-3 c =
@@ -30,4 +21,4 @@ returns-3 c =
 
 pub within-spec : {M : Type 1} → statement M
 within-spec =
-    tie.close (tie.spec returns shared-slice-read-among among-requires returns-2 add-t5 returns-3)
+    tie.close (tie.spec returns (λ c. search needs) (λ c κs. search needs) returns-2 (λ c. search needs) returns-3)

@@ -7,30 +7,9 @@ use Rattle.fitting.proofs.Saying.{too-long, in-buffer}
 use Rattle.fitting.proofs.say.Statement.{statement}
 use Rattle.fitting.proofs.say.Tie as tie
 
-sub-report : tie.Need-sub-report
-sub-report c = search needs
-
-part-report-start : tie.Need-part-report-start
-part-report-start c = search needs
-
-part-report-end : tie.Need-part-report-end
-part-report-end c = search needs
-
-report-requires : tie.Need-report-requires
-report-requires c κs = search needs
-
-same-length : tie.Need-same-length
-same-length c = search needs
-
 returns : tie.Need-returns
 returns c =
     (λ table f says. too-long (report table f) (c .before .before .before .report .result) (length (c .before .before .before .before .before .before .before .before .before .before .before .before .before .before .args .report .now)) (c .before .before .before .before .before .before .before .before .before .before .before .before .before .before .args .report .now) (c .before .before .before .report .last .1 .1 .1 .1 .1 .1 .1 .1 .1 .1 .1 .0) (c .before .before .before .report .ensures table f says) (omega arith) (c .if1 .taken))
-
-report-requires-2 : tie.Need-report-requires-2
-report-requires-2 c κs = search needs
-
-same-length-2 : tie.Need-same-length-2
-same-length-2 c = search needs
 
 returns-2 : tie.Need-returns-2
 returns-2 c =
@@ -40,12 +19,12 @@ pub say-spec : {M : Type 1} → statement M
 say-spec =
     tie.close
     (tie.spec
-    sub-report
-    part-report-start
-    part-report-end
-    report-requires
-    same-length
+    (λ c. search needs)
+    (λ c. search needs)
+    (λ c. search needs)
+    (λ c κs. search needs)
+    (λ c. search needs)
     returns
-    report-requires-2
-    same-length-2
+    (λ c κs. search needs)
+    (λ c. search needs)
     returns-2)

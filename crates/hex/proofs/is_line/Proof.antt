@@ -18,12 +18,9 @@ returns-3 : tie.Need-returns-3
 returns-3 c =
     long-line (c .before .before .before .before .args .ds .now) (c .before .if2 .left) (c .if3 .taken)
 
-all-digits-requires : tie.Need-all-digits-requires
-all-digits-requires c κs = search needs
-
 returns-4 : tie.Need-returns-4
 returns-4 c =
     c .all-digits .ensures ∙ hex-line (c .before .before .before .before .before .args .ds .now) (omega arith) (c .before .before .if2 .left) (c .before .if3 .left)
 
 pub is-line-spec : {M : Type 1} → statement M
-is-line-spec = tie.close (tie.spec returns returns-2 returns-3 all-digits-requires returns-4)
+is-line-spec = tie.close (tie.spec returns returns-2 returns-3 (λ c κs. search needs) returns-4)

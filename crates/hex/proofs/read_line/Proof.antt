@@ -15,30 +15,9 @@ returns : tie.Need-returns
 returns c =
     line-cut (c .before .before .before .before .args .file .now) (c .before .before .before .before .args .from) (c .before .line-end .result) (c .before .before .before .before .pre .0) (c .before .line-end .ensures) (c .before .before .before .before .args .out .now) (c .if1 .taken)
 
-sub-is-line : tie.Need-sub-is-line
-sub-is-line c = search needs
-
-part-is-line-start : tie.Need-part-is-line-start
-part-is-line-start c = search needs
-
-part-is-line-end : tie.Need-part-is-line-end
-part-is-line-end c = search needs
-
-is-line-requires : tie.Need-is-line-requires
-is-line-requires c κs = search needs
-
 returns-2 : tie.Need-returns-2
 returns-2 c =
     line-bad (c .before .before .before .before .before .before .before .args .file .now) (c .before .before .before .before .before .before .before .args .from) (c .before .before .before .before .line-end .result) (c .before .before .before .before .before .before .before .pre .0) (c .before .before .before .before .line-end .ensures) (c .before .before .before .before .before .before .before .args .out .now) (c .before .before .before .if1 .left) (sym (c .before .is-line .ensures) ∙ not-true _ (c .if2 .taken))
-
-sub-decode : tie.Need-sub-decode
-sub-decode c = search needs
-
-part-decode-start : tie.Need-part-decode-start
-part-decode-start c = search needs
-
-part-decode-end : tie.Need-part-decode-end
-part-decode-end c = search needs
 
 decode-requires : tie.Need-decode-requires
 decode-requires c κs =
@@ -62,14 +41,14 @@ read-line-spec =
     (tie.spec
     line-end-requires
     returns
-    sub-is-line
-    part-is-line-start
-    part-is-line-end
-    is-line-requires
+    (λ c. search needs)
+    (λ c. search needs)
+    (λ c. search needs)
+    (λ c κs. search needs)
     returns-2
-    sub-decode
-    part-decode-start
-    part-decode-end
+    (λ c. search needs)
+    (λ c. search needs)
+    (λ c. search needs)
     decode-requires
     add-t7
     same-length

@@ -10,24 +10,9 @@ use Rattle.judging.proofs.Judging.{sizes, starts, says, reported, part-
 use Rattle.judging.proofs.judged.Statement.{statement}
 use Rattle.judging.proofs.judged.Tie as tie
 
-slice-aggregate-walk : tie.Need-slice-aggregate-walk
-slice-aggregate-walk c = search needs
-
-slice-aggregate-walk-2 : tie.Need-slice-aggregate-walk-2
-slice-aggregate-walk-2 c = search needs
-
 walk-requires : tie.Need-walk-requires
 walk-requires c κs =
     (sizes _ (c .before .before .before .before .before .before .before .before .before .before .before .before .before .before .before .pre .0), (starts _ (c .before .before .before .before .before .before .before .before .before .before .before .before .before .before .before .pre .0), (c .before .before .before .before .before .before .before .before .before .before .before .before .before .before .before .pre .0 .few, c .before .before .before .before .before .before .before .before .before .before .before .before .before .before .before .pre .1, omega arith, omega arith)))
-
-enum-told : tie.Need-enum-told
-enum-told c = search needs
-
-enum-known-w : tie.Need-enum-known-w
-enum-known-w c = search needs
-
-array-share-prefix-verdicts : tie.Need-array-share-prefix-verdicts
-array-share-prefix-verdicts c = search needs
 
 slice-aggregate-say : tie.Need-slice-aggregate-say
 slice-aggregate-say c =
@@ -69,12 +54,12 @@ pub judged-spec : {M : Type 1} → statement M
 judged-spec =
     tie.close
     (tie.spec
-    slice-aggregate-walk
-    slice-aggregate-walk-2
+    (λ c. search needs)
+    (λ c. search needs)
     walk-requires
-    enum-told
-    enum-known-w
-    array-share-prefix-verdicts
+    (λ c. search needs)
+    (λ c. search needs)
+    (λ c. search needs)
     slice-aggregate-say
     array-share-prefix-out
     slice-aggregate-say-2

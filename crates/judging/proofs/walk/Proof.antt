@@ -15,12 +15,6 @@ judge-requires : tie.Need-judge-requires
 judge-requires c κs =
     (c .before .before .before .before .before .before .before .before .before .before .before .pre .0, (c .before .before .before .before .before .before .before .before .before .before .before .pre .1 .0, (c .before .before .before .before .before .before .before .before .before .before .before .pre .1 .1 .0, c .before .before .before .before .before .before .before .before .before .before .before .pre .1 .1 .1, le-trans (c .before .before .before .before .before .before .before .before .before .before .before .pre .1 .1 .0) (c .before .before .before .before .before .before .before .before .before .before .before .pre .1 .1 .2))))
 
-enum-known-reached : tie.Need-enum-known-reached
-enum-known-reached c = search needs
-
-enum-told : tie.Need-enum-told
-enum-told c = search needs
-
 clear-requires : tie.Need-clear-requires
 clear-requires c κs =
     tt
@@ -37,21 +31,9 @@ returns : tie.Need-returns
 returns c =
     (λ kinds b h. first-over (c .before .before .before .before .before .before .before .before .before .before .before .before .before .before .before .before .before .before .before .before .before .before .args .bytes .now) b (c .before .before .before .before .before .before .before .before .before .before .before .before .before .before .before .before .before .before .before .before .before .before .args .verdicts .now) (c .before .before .before .before .before .before .before .before .before .before .judge .last .1 .1 .1 .1 .1 .1 .1 .0) _ (subst (Judges (b .table) (b .rows) (c .before .before .before .before .before .before .before .before .before .before .before .before .before .before .before .before .before .before .before .before .before .before .args .verdicts .now) (c .before .before .before .before .before .before .before .before .before .before .judge .last .1 .1 .1 .1 .1 .1 .1 .0)) (c .before .before .before .before .enum-told .given .1) (c .before .before .before .before .before .before .before .before .before .before .judge .ensures .1 .1 kinds (b .table) (b .subject) (b .rows) h)), c .before .before .clear .ensures ∙ ap (λ (n : ℕ). replicate n 0) (c .before .before .before .before .before .before .before .before .before .before .judge .kept .1 .1 .1 .1 .1 .1 .0))
 
-slice-aggregate-missing : tie.Need-slice-aggregate-missing
-slice-aggregate-missing c = search needs
-
-slice-aggregate-missing-2 : tie.Need-slice-aggregate-missing-2
-slice-aggregate-missing-2 c = search needs
-
 missing-requires : tie.Need-missing-requires
 missing-requires c κs =
     (c .before .before .before .before .before .before .before .before .before .before .before .before .before .before .before .before .before .before .before .before .before .before .before .pre .0, (c .before .before .before .before .before .before .before .before .before .before .before .before .before .before .before .before .before .before .before .before .before .before .before .pre .1 .0, (c .before .before .before .before .before .before .before .before .before .before .before .before .before .before .before .before .before .before .before .before .before .before .before .pre .1 .1 .0, subst (λ (n : ℕ). 16384 ≤ n) (sym (c .before .before .before .before .before .before .before .before .before .before .before .judge .kept .1 .1 .1 .1 .1 .1 .0)) (c .before .before .before .before .before .before .before .before .before .before .before .before .before .before .before .before .before .before .before .before .before .before .before .pre .1 .1 .1), omega (arith, length-replicate {A = ℕ} 16384 0), omega (arith, length-replicate {A = ℕ} 16384 0), c .before .before .before .before .before .before .before .before .before .before .before .before .before .before .before .before .before .before .before .before .before .before .before .pre .1 .1 .3)))
-
-enum-told-2 : tie.Need-enum-told-2
-enum-told-2 c = search needs
-
-enum-known-found : tie.Need-enum-known-found
-enum-known-found c = search needs
 
 same-length-3 : tie.Need-same-length-3
 same-length-3 c =
@@ -90,17 +72,17 @@ walk-spec =
     tie.close
     (tie.spec
     judge-requires
-    enum-known-reached
-    enum-told
+    (λ c. search needs)
+    (λ c. search needs)
     clear-requires
     same-length
     same-length-2
     returns
-    slice-aggregate-missing
-    slice-aggregate-missing-2
+    (λ c. search needs)
+    (λ c. search needs)
     missing-requires
-    enum-told-2
-    enum-known-found
+    (λ c. search needs)
+    (λ c. search needs)
     same-length-3
     same-length-4
     same-length-5

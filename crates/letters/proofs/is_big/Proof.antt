@@ -6,16 +6,10 @@ use borrow.Author.Needs.{needs}
 use Rattle.letters.proofs.is_big.Statement.{statement}
 use Rattle.letters.proofs.is_big.Tie as tie
 
-is-upper-requires : tie.Need-is-upper-requires
-is-upper-requires c κs = search needs
-
 returns : tie.Need-returns
 unfolding isBig
 returns c =
     or-left _ _ (sym (c .before .is-upper .ensures) ∙ c .if1 .taken)
-
-is-small-requires : tie.Need-is-small-requires
-is-small-requires c κs = search needs
 
 returns-2 : tie.Need-returns-2
 unfolding isBig
@@ -23,4 +17,4 @@ returns-2 c =
     or-right _ _ _ (sym (c .before .before .is-upper .ensures) ∙ c .before .if1 .left) (sym (c .is-small .ensures))
 
 pub is-big-spec : {M : Type 1} → statement M
-is-big-spec = tie.close (tie.spec is-upper-requires returns is-small-requires returns-2)
+is-big-spec = tie.close (tie.spec (λ c κs. search needs) returns (λ c κs. search needs) returns-2)

@@ -10,21 +10,6 @@ returns : tie.Need-returns
 returns c =
     sym (decimal-none (c .before .before .args .t .now) (c .if1 .taken))
 
-shared-slice-read-d : tie.Need-shared-slice-read-d
-shared-slice-read-d c = search needs
-
-sub-is-positive : tie.Need-sub-is-positive
-sub-is-positive c = search needs
-
-part-is-positive-start : tie.Need-part-is-positive-start
-part-is-positive-start c = search needs
-
-part-is-positive-end : tie.Need-part-is-positive-end
-part-is-positive-end c = search needs
-
-is-positive-requires : tie.Need-is-positive-requires
-is-positive-requires c κs = search needs
-
 returns-2 : tie.Need-returns-2
 returns-2 c =
     c .is-positive .ensures ∙ sym (decimal-minus (c .before .before .before .before .before .before .args .t .now) (omega arith) (c .before .before .if2 .taken))
@@ -32,9 +17,6 @@ returns-2 c =
 returns-3 : tie.Need-returns-3
 returns-3 c =
     sym (decimal-zero (c .before .before .before .before .before .args .t .now) (omega arith) (c .if3 .taken))
-
-is-positive-requires-2 : tie.Need-is-positive-requires-2
-is-positive-requires-2 c κs = search needs
 
 returns-4 : tie.Need-returns-4
 returns-4 c =
@@ -45,12 +27,12 @@ is-decimal-spec =
     tie.close
     (tie.spec
     returns
-    shared-slice-read-d
-    sub-is-positive
-    part-is-positive-start
-    part-is-positive-end
-    is-positive-requires
+    (λ c. search needs)
+    (λ c. search needs)
+    (λ c. search needs)
+    (λ c. search needs)
+    (λ c κs. search needs)
     returns-2
     returns-3
-    is-positive-requires-2
+    (λ c κs. search needs)
     returns-4)

@@ -6,19 +6,13 @@ use borrow.Author.Needs.{needs}
 use Rattle.letters.proofs.is_digit_of.Statement.{statement}
 use Rattle.letters.proofs.is_digit_of.Tie as tie
 
-is-hex-requires : tie.Need-is-hex-requires
-is-hex-requires c κs = search needs
-
 returns : tie.Need-returns
 returns c =
     c .is-hex .ensures ∙ ap (λ (x : Bool). digitOf x (c .before .before .args .b)) (sym (c .before .if1 .taken))
-
-is-digit-requires : tie.Need-is-digit-requires
-is-digit-requires c κs = search needs
 
 returns-2 : tie.Need-returns-2
 returns-2 c =
     c .is-digit .ensures ∙ ap (λ (x : Bool). digitOf x (c .before .before .args .b)) (sym (c .before .if1 .left))
 
 pub is-digit-of-spec : {M : Type 1} → statement M
-is-digit-of-spec = tie.close (tie.spec is-hex-requires returns is-digit-requires returns-2)
+is-digit-of-spec = tie.close (tie.spec (λ c κs. search needs) returns (λ c κs. search needs) returns-2)

@@ -11,27 +11,9 @@ returns : tie.Need-returns
 returns c =
     sym (positive-none (c .before .before .args .t .now) (c .if1 .taken))
 
-shared-slice-read-among : tie.Need-shared-slice-read-among
-shared-slice-read-among c = search needs
-
-among-requires : tie.Need-among-requires
-among-requires c κs = search needs
-
 returns-2 : tie.Need-returns-2
 returns-2 c =
     and-left _ _ (sym (c .before .among .ensures) ∙ not-true _ (c .if2 .taken)) ∙ sym (positive-law (c .before .before .before .before .before .args .t .now) (omega arith))
-
-sub-all-digits : tie.Need-sub-all-digits
-sub-all-digits c = search needs
-
-part-all-digits-start : tie.Need-part-all-digits-start
-part-all-digits-start c = search needs
-
-part-all-digits-end : tie.Need-part-all-digits-end
-part-all-digits-end c = search needs
-
-all-digits-requires : tie.Need-all-digits-requires
-all-digits-requires c κs = search needs
 
 returns-3 : tie.Need-returns-3
 returns-3 c =
@@ -42,11 +24,11 @@ is-positive-spec =
     tie.close
     (tie.spec
     returns
-    shared-slice-read-among
-    among-requires
+    (λ c. search needs)
+    (λ c κs. search needs)
     returns-2
-    sub-all-digits
-    part-all-digits-start
-    part-all-digits-end
-    all-digits-requires
+    (λ c. search needs)
+    (λ c. search needs)
+    (λ c. search needs)
+    (λ c κs. search needs)
     returns-3)

@@ -6,16 +6,10 @@ use borrow.Author.Needs.{needs}
 use Rattle.letters.proofs.is_small.Statement.{statement}
 use Rattle.letters.proofs.is_small.Tie as tie
 
-is-lower-requires : tie.Need-is-lower-requires
-is-lower-requires c κs = search needs
-
 returns : tie.Need-returns
 unfolding isSmall
 returns c =
     or-left _ _ (sym (or-left _ _ (sym (c .before .is-lower .ensures) ∙ c .if1 .taken)))
-
-is-digit-requires : tie.Need-is-digit-requires
-is-digit-requires c κs = search needs
 
 returns-2 : tie.Need-returns-2
 unfolding isSmall
@@ -29,4 +23,4 @@ returns-3 c =
 
 pub is-small-spec : {M : Type 1} → statement M
 is-small-spec =
-    tie.close (tie.spec is-lower-requires returns is-digit-requires returns-2 returns-3)
+    tie.close (tie.spec (λ c κs. search needs) returns (λ c κs. search needs) returns-2 returns-3)

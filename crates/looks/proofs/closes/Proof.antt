@@ -9,9 +9,6 @@ use borrow.Author.Needs.{needs}
 use Rattle.looks.proofs.closes.Statement.{statement}
 use Rattle.looks.proofs.closes.Tie as tie
 
-is-nil-requires : tie.Need-is-nil-requires
-is-nil-requires c κs = search needs
-
 returns : tie.Need-returns
 returns c =
     let a = c .before .before .before .before .args in
@@ -22,13 +19,10 @@ returns-2 c =
     let a = c .before .before .before .before .args in
     closes-not (a .first || a .paste) (nilNode (a .kinds .now) (getD (a .nodes .now) (a .p) 0)) (ap₂ _||_ (c .before .if1 .left) (not-true _ (c .if2 .taken)))
 
-is-nil-requires-2 : tie.Need-is-nil-requires-2
-is-nil-requires-2 c κs = search needs
-
 returns-3 : tie.Need-returns-3
 returns-3 c =
     let a = c .before .before .before .before .before .args in
     closes-is (a .first || a .paste) (c .is-nil2 .result) (nilNode (a .kinds .now) (getD (a .nodes .now) (a .p) 0)) (ap₂ _||_ (c .before .before .if1 .left) (not-false _ (c .before .if2 .left))) (c .is-nil2 .ensures)
 
 pub closes-spec : {M : Type 1} → statement M
-closes-spec = tie.close (tie.spec is-nil-requires returns returns-2 is-nil-requires-2 returns-3)
+closes-spec = tie.close (tie.spec (λ c κs. search needs) returns returns-2 (λ c κs. search needs) returns-3)

@@ -6,18 +6,6 @@ use borrow.Author.Needs.{needs}
 use Rattle.looks.proofs.ctor_name.Statement.{statement}
 use Rattle.looks.proofs.ctor_name.Tie as tie
 
-at8-requires : tie.Need-at8-requires
-at8-requires c κs = search needs
-
-at16-requires : tie.Need-at16-requires
-at16-requires c κs = search needs
-
-wide16-requires : tie.Need-wide16-requires
-wide16-requires c κs = search needs
-
-name-of-requires : tie.Need-name-of-requires
-name-of-requires c κs = search needs
-
 returns : tie.Need-returns
 returns c =
     let a = c .before .before .before .before .before .before .before .before .args in
@@ -25,4 +13,4 @@ returns c =
 
 pub ctor-name-spec : {M : Type 1} → statement M
 ctor-name-spec =
-    tie.close (tie.spec at8-requires at16-requires wide16-requires name-of-requires returns)
+    tie.close (tie.spec (λ c κs. search needs) (λ c κs. search needs) (λ c κs. search needs) (λ c κs. search needs) returns)

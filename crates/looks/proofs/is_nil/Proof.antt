@@ -10,22 +10,10 @@ use borrow.Author.Needs.{needs}
 use Rattle.looks.proofs.is_nil.Statement.{statement}
 use Rattle.looks.proofs.is_nil.Tie as tie
 
-at16-requires : tie.Need-at16-requires
-at16-requires c κs = search needs
-
 returns : tie.Need-returns
 returns c =
     let a = c .before .before .before .before .args in
     nil-zero (a .kinds .now) (getD (a .nodes .now) (a .p) 0) (sym (c .before .at16 .ensures) ∙ c .if1 .taken)
-
-wide16-requires : tie.Need-wide16-requires
-wide16-requires c κs = search needs
-
-sub-i : tie.Need-sub-i
-sub-i c = search needs
-
-at8-requires : tie.Need-at8-requires
-at8-requires c κs = search needs
 
 returns-2 : tie.Need-returns-2
 returns-2 c =
@@ -40,4 +28,4 @@ returns-3 c =
 pub is-nil-spec : {M : Type 1} → statement M
 is-nil-spec =
     tie.close
-    (tie.spec at16-requires returns wide16-requires sub-i at8-requires returns-2 returns-3)
+    (tie.spec (λ c κs. search needs) returns (λ c κs. search needs) (λ c. search needs) (λ c κs. search needs) returns-2 returns-3)

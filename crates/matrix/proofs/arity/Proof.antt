@@ -11,22 +11,10 @@ returns : tie.Need-returns
 returns c =
     arity-none (c .before .before .args .arities .now) (c .before .before .args .node) (c .if1 .taken)
 
-wide16-requires : tie.Need-wide16-requires
-wide16-requires c κs = search needs
-
-sub-at8 : tie.Need-sub-at8
-sub-at8 c = search needs
-
-at8-requires : tie.Need-at8-requires
-at8-requires c κs = search needs
-
-wide8-requires : tie.Need-wide8-requires
-wide8-requires c κs = search needs
-
 returns-2 : tie.Need-returns-2
 returns-2 c =
     c .wide8 .ensures ∙ c .before .at8 .ensures ∙ ap (λ (i : ℕ). getD (c .before .before .before .before .before .args .arities .now) (i - 1) 0) (c .before .before .wide16 .ensures) ∙ arity-node (c .before .before .before .before .before .args .arities .now) (c .before .before .before .before .before .args .node) (c .before .before .before .if1 .left)
 
 pub arity-spec : {M : Type 1} → statement M
 arity-spec =
-    tie.close (tie.spec returns wide16-requires sub-at8 at8-requires wide8-requires returns-2)
+    tie.close (tie.spec returns (λ c κs. search needs) (λ c. search needs) (λ c κs. search needs) (λ c κs. search needs) returns-2)

@@ -9,23 +9,11 @@ use borrow.Author.Needs.{needs}
 use Rattle.matrix.proofs.onward.Statement.{statement}
 use Rattle.matrix.proofs.onward.Tie as tie
 
-wide16-requires : tie.Need-wide16-requires
-wide16-requires c κs = search needs
-
-at16-requires : tie.Need-at16-requires
-at16-requires c κs = search needs
-
-wide16-requires-2 : tie.Need-wide16-requires-2
-wide16-requires-2 c κs = search needs
-
 returns : tie.Need-returns
 returns c =
     let a = c .before .before .before .before .before .before .before .args in
     let l : c .before .wide162 .result ≡ getD (a .left .now) (a .p) 0 = c .before .wide162 .ensures ∙ c .before .before .at16 .ensures ∙ ap (λ (i : ℕ). getD (a .left .now) i 0) (c .before .before .before .wide16 .ensures) in
     step-stay (a .bytes .now) (a .nodes .now) (a .left .now) (a .n) (a .key) (a .p) (omega arith)
-
-at16-requires-2 : tie.Need-at16-requires-2
-at16-requires-2 c κs = search needs
 
 add-t12 : tie.Need-add-t12
 add-t12 c =
@@ -46,9 +34,6 @@ returns-3 c =
     let l : c .before .before .before .before .wide162 .result ≡ getD (a .left .now) (a .p) 0 = c .before .before .before .before .wide162 .ensures ∙ c .before .before .before .before .before .at16 .ensures ∙ ap (λ (i : ℕ). getD (a .left .now) i 0) (c .before .before .before .before .before .before .wide16 .ensures) in
     let h : c .before .before .at162 .result ≡ getD (a .nodes .now) (a .p) 0 = c .before .before .at162 .ensures ∙ ap (λ (i : ℕ). getD (a .nodes .now) i 0) (c .before .before .before .before .before .before .wide16 .ensures) in
     step-none (a .bytes .now) (a .nodes .now) (a .left .now) (a .n) (a .key) (a .p) (omega arith) (λ z. c .before .if2 .left (h ∙ z)) (c .if3 .taken)
-
-same-node-requires : tie.Need-same-node-requires
-same-node-requires c κs = search needs
 
 add-t14 : tie.Need-add-t14
 add-t14 c =
@@ -74,15 +59,15 @@ pub onward-spec : {M : Type 1} → statement M
 onward-spec =
     tie.close
     (tie.spec
-    wide16-requires
-    at16-requires
-    wide16-requires-2
+    (λ c κs. search needs)
+    (λ c κs. search needs)
+    (λ c κs. search needs)
     returns
-    at16-requires-2
+    (λ c κs. search needs)
     add-t12
     returns-2
     returns-3
-    same-node-requires
+    (λ c κs. search needs)
     add-t14
     returns-4
     returns-5)

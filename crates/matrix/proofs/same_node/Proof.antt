@@ -15,15 +15,6 @@ returns-2 : tie.Need-returns-2
 returns-2 c =
     node-not (c .before .before .before .args .bytes .now) (c .before .before .before .args .h) (c .before .before .before .args .key) (c .before .if1 .left) (c .if2 .taken)
 
-wide16-requires : tie.Need-wide16-requires
-wide16-requires c κs = search needs
-
-wide16-requires-2 : tie.Need-wide16-requires-2
-wide16-requires-2 c κs = search needs
-
-same-literal-requires : tie.Need-same-literal-requires
-same-literal-requires c κs = search needs
-
 returns-3 : tie.Need-returns-3
 returns-3 c =
     let a = c .before .before .before .before .before .before .args in
@@ -32,4 +23,4 @@ returns-3 c =
 pub same-node-spec : {M : Type 1} → statement M
 same-node-spec =
     tie.close
-    (tie.spec returns returns-2 wide16-requires wide16-requires-2 same-literal-requires returns-3)
+    (tie.spec returns returns-2 (λ c κs. search needs) (λ c κs. search needs) (λ c κs. search needs) returns-3)

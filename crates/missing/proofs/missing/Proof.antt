@@ -11,44 +11,11 @@ use borrow.Author.Needs.{needs}
 use Rattle.missing.proofs.missing.Statement.{statement}
 use Rattle.missing.proofs.missing.Tie as tie
 
-copy-requires : tie.Need-copy-requires
-copy-requires c κs = search needs
-
 collect-missing-patterns-requires : tie.Need-collect-missing-patterns-requires
 collect-missing-patterns-requires c κs =
     let a = c .before .before .before .before .before .before .before .before .before .before .before .before .before .before .before .before .before .before .args in
     let h = c .before .before .before .before .before .before .before .before .before .before .before .before .before .before .before .before .before .before .pre in
     (first-opened (a .bytes .now) (a .nodes .now) (a .left .now) (a .counts .now) (a .arities .now) (a .starts .now) (h .0) (h .1 .0) (a .s .now) (c .before .before .before .before .before .before .copy .last .1 .1 .0) (h .1 .1 .0) (h .1 .1 .1) (c .before .before .before .before .before .before .copy .ensures), (first-trail (a .path .now) (a .alts .now) (h .1 .1 .2) (h .1 .1 .3), omega arith))
-
-clear-requires : tie.Need-clear-requires
-clear-requires c κs = search needs
-
-clear-requires-2 : tie.Need-clear-requires-2
-clear-requires-2 c κs = search needs
-
-clear-sets-requires : tie.Need-clear-sets-requires
-clear-sets-requires c κs = search needs
-
-enum-told : tie.Need-enum-told
-enum-told c = search needs
-
-clear-requires-3 : tie.Need-clear-requires-3
-clear-requires-3 c κs = search needs
-
-enum-known-r : tie.Need-enum-known-r
-enum-known-r c = search needs
-
-same-length : tie.Need-same-length
-same-length c = search needs
-
-same-length-2 : tie.Need-same-length-2
-same-length-2 c = search needs
-
-same-length-3 : tie.Need-same-length-3
-same-length-3 c = search needs
-
-same-length-4 : tie.Need-same-length-4
-same-length-4 c = search needs
 
 returns : tie.Need-returns
 unfolding outAfter
@@ -72,18 +39,6 @@ returns c =
         ),
       ),
     )
-
-same-length-5 : tie.Need-same-length-5
-same-length-5 c = search needs
-
-same-length-6 : tie.Need-same-length-6
-same-length-6 c = search needs
-
-same-length-7 : tie.Need-same-length-7
-same-length-7 c = search needs
-
-same-length-8 : tie.Need-same-length-8
-same-length-8 c = search needs
 
 returns-2 : tie.Need-returns-2
 returns-2 c =
@@ -112,21 +67,21 @@ pub missing-spec : {M : Type 1} → statement M
 missing-spec =
     tie.close
     (tie.spec
-    copy-requires
+    (λ c κs. search needs)
     collect-missing-patterns-requires
-    clear-requires
-    clear-requires-2
-    clear-sets-requires
-    enum-told
-    clear-requires-3
-    enum-known-r
-    same-length
-    same-length-2
-    same-length-3
-    same-length-4
+    (λ c κs. search needs)
+    (λ c κs. search needs)
+    (λ c κs. search needs)
+    (λ c. search needs)
+    (λ c κs. search needs)
+    (λ c. search needs)
+    (λ c. search needs)
+    (λ c. search needs)
+    (λ c. search needs)
+    (λ c. search needs)
     returns
-    same-length-5
-    same-length-6
-    same-length-7
-    same-length-8
+    (λ c. search needs)
+    (λ c. search needs)
+    (λ c. search needs)
+    (λ c. search needs)
     returns-2)

@@ -14,12 +14,9 @@ slice-aggregate-same : tie.Need-slice-aggregate-same
 slice-aggregate-same c =
     sym (length-take-le _ (c .before .before .before .before .args .t .now) (c .before .if1 .left))
 
-same-requires : tie.Need-same-requires
-same-requires c κs = search needs
-
 returns-2 : tie.Need-returns-2
 returns-2 c =
     c .same .ensures ∙ starts-same (c .before .before .before .before .before .args .s .now) (c .before .before .before .before .before .args .t .now) (c .before .before .if1 .left)
 
 pub starts-with-spec : {M : Type 1} → statement M
-starts-with-spec = tie.close (tie.spec returns slice-aggregate-same same-requires returns-2)
+starts-with-spec = tie.close (tie.spec returns slice-aggregate-same (λ c κs. search needs) returns-2)

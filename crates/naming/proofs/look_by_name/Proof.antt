@@ -6,16 +6,10 @@ use borrow.Author.Needs.{needs}
 use Rattle.naming.proofs.look_by_name.Statement.{statement}
 use Rattle.naming.proofs.look_by_name.Tie as tie
 
-contains-requires : tie.Need-contains-requires
-contains-requires c κs = search needs
-
 returns : tie.Need-returns
 returns c =
     let s = c .before .before .before .before .before in
     sym (ap lookOf (name-round (s .args .name .now) (s .args .cons .now) (s .args .tuple .now) (s .pre .0) (s .pre .1) (sym (c .if1 .taken) ∙ c .before .contains .ensures)))
-
-same-requires : tie.Need-same-requires
-same-requires c κs = search needs
 
 returns-2 : tie.Need-returns-2
 returns-2 c =
@@ -29,4 +23,4 @@ returns-3 c =
 
 pub look-by-name-spec : {M : Type 1} → statement M
 look-by-name-spec =
-    tie.close (tie.spec contains-requires returns same-requires returns-2 returns-3)
+    tie.close (tie.spec (λ c κs. search needs) returns (λ c κs. search needs) returns-2 returns-3)

@@ -8,12 +8,6 @@ use borrow.Author.Needs.{needs}
 use Rattle.naming.proofs.name_of.Statement.{statement}
 use Rattle.naming.proofs.name_of.Tie as tie
 
-sub-result : tie.Need-sub-result
-sub-result c = search needs
-
-part-result-start : tie.Need-part-result-start
-part-result-start c = search needs
-
 part-result-end : tie.Need-part-result-end
 part-result-end c =
     omega (arith, ap length (c .before .before .before .before .pre))
@@ -22,12 +16,6 @@ returns : tie.Need-returns
 returns c =
     let a = c .before .before .before .before .before .args in
     both-ways (a .bytes .now) (a .kind) (a .c) (a .place) (ap (take 2) (c .before .before .before .before .before .pre) ∙ name-cons (a .bytes .now) (a .kind) (a .c) (a .place) (c .before .before .if1 .taken) (c .before .if2 .taken)) (omega (arith, ap (λ (x : Text). length (take 2 x)) (c .before .before .before .before .before .pre)))
-
-sub-result-2 : tie.Need-sub-result-2
-sub-result-2 c = search needs
-
-part-result-start-2 : tie.Need-part-result-start-2
-part-result-start-2 c = search needs
 
 part-result-end-2 : tie.Need-part-result-end-2
 part-result-end-2 c =
@@ -38,12 +26,6 @@ returns-2 c =
     let a = c .before .before .before .before .before .args in
     both-ways (a .bytes .now) (a .kind) (a .c) (a .place) (ap (λ (x : Text). take 2 (drop 2 x)) (c .before .before .before .before .before .pre) ∙ name-nil (a .bytes .now) (a .kind) (a .c) (a .place) (c .before .before .if1 .taken) (c .before .if2 .left)) (omega (arith, ap (λ (x : Text). length (take 2 (drop 2 x))) (c .before .before .before .before .before .pre)))
 
-sub-result-3 : tie.Need-sub-result-3
-sub-result-3 c = search needs
-
-part-result-start-3 : tie.Need-part-result-start-3
-part-result-start-3 c = search needs
-
 part-result-end-3 : tie.Need-part-result-end-3
 part-result-end-3 c =
     omega (arith, ap length (c .before .before .before .before .pre))
@@ -52,9 +34,6 @@ returns-3 : tie.Need-returns-3
 returns-3 c =
     let a = c .before .before .before .before .before .args in
     both-ways (a .bytes .now) (a .kind) (a .c) (a .place) (ap (λ (x : Text). take 7 (drop 4 x)) (c .before .before .before .before .before .pre) ∙ name-tuple (a .bytes .now) (a .kind) (a .c) (a .place) (c .before .before .if1 .left) (c .before .if3 .taken)) (omega (arith, ap (λ (x : Text). length (take 7 (drop 4 x))) (c .before .before .before .before .before .pre)))
-
-name-at-requires : tie.Need-name-at-requires
-name-at-requires c κs = search needs
 
 returns-4 : tie.Need-returns-4
 returns-4 c =
@@ -65,17 +44,17 @@ pub name-of-spec : {M : Type 1} → statement M
 name-of-spec =
     tie.close
     (tie.spec
-    sub-result
-    part-result-start
+    (λ c. search needs)
+    (λ c. search needs)
     part-result-end
     returns
-    sub-result-2
-    part-result-start-2
+    (λ c. search needs)
+    (λ c. search needs)
     part-result-end-2
     returns-2
-    sub-result-3
-    part-result-start-3
+    (λ c. search needs)
+    (λ c. search needs)
     part-result-end-3
     returns-3
-    name-at-requires
+    (λ c κs. search needs)
     returns-4)

@@ -7,9 +7,6 @@ use borrow.Author.Needs.{needs}
 use Rattle.nodes.proofs.arity.Statement.{statement}
 use Rattle.nodes.proofs.arity.Tie as tie
 
-returns : tie.Need-returns
-returns c = search needs
-
 returns-2 : tie.Need-returns-2
 returns-2 c =
     (arity-literal (c .before .before .before .args .arities .now) (c .before .before .before .args .node) (c .if2 .taken), omega arith)
@@ -33,4 +30,4 @@ returns-3 c =
 pub arity-spec : {M : Type 1} → statement M
 arity-spec =
     tie.close
-    (tie.spec returns returns-2 wide16-requires sub-at8 at8-requires wide8-requires returns-3)
+    (tie.spec (λ c. search needs) returns-2 wide16-requires sub-at8 at8-requires wide8-requires returns-3)

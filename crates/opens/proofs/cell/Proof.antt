@@ -8,18 +8,6 @@ returns : tie.Need-returns
 returns c =
     cell-none (c .before .before .args .nodes .now) (c .before .before .args .nodes .now) (c .before .before .args .at) (c .before .before .args .what) (c .if1 .taken)
 
-list-type-requires : tie.Need-list-type-requires
-list-type-requires c κs = search needs
-
-key-requires : tie.Need-key-requires
-key-requires c κs = search needs
-
-put16-requires : tie.Need-put16-requires
-put16-requires c κs = search needs
-
-same-length : tie.Need-same-length
-same-length c = search needs
-
 returns-2 : tie.Need-returns-2
 returns-2 c =
     cell-list (c .before .before .before .before .before .before .before .before .args .nodes .now) (c .before .before .put16 .last .0) (c .before .before .before .before .before .before .before .before .args .at) (c .before .before .before .before .before .before .before .before .args .what) (c .before .before .before .before .list-type .result) (c .before .before .before .key .result) (c .before .before .put16 .result) (c .before .before .before .before .before .before .if1 .left) (c .before .before .before .before .list-type .ensures .0) (c .before .before .put16 .ensures .0) (c .before .before .put16 .ensures .1) (c .before .before .before .key .ensures)
@@ -27,4 +15,4 @@ returns-2 c =
 pub cell-spec : {M : Type 1} → statement M
 cell-spec =
     tie.close
-    (tie.spec returns list-type-requires key-requires put16-requires same-length returns-2)
+    (tie.spec returns (λ c κs. search needs) (λ c κs. search needs) (λ c κs. search needs) (λ c. search needs) returns-2)

@@ -4,30 +4,9 @@ use borrow.Author.Needs.{needs}
 use Rattle.opens.proofs.finish.Statement.{statement}
 use Rattle.opens.proofs.finish.Tie as tie
 
-list-type-requires : tie.Need-list-type-requires
-list-type-requires c κs = search needs
-
-key-requires : tie.Need-key-requires
-key-requires c κs = search needs
-
-put16-requires : tie.Need-put16-requires
-put16-requires c κs = search needs
-
-same-length : tie.Need-same-length
-same-length c = search needs
-
 returns : tie.Need-returns
 returns c =
     finish-list (c .before .before .before .before .before .before .before .before .args .nodes .now) (c .before .before .put16 .last .0) (c .before .before .before .before .before .before .before .before .args .at) (c .before .before .before .before .before .before .before .before .args .what) (c .before .before .before .before .list-type .result) (c .before .before .before .key .result) (c .before .before .put16 .result) (c .before .before .before .before .before .before .if1 .taken) (c .before .before .before .before .list-type .ensures .0) (c .before .before .put16 .ensures .0) (c .before .before .put16 .ensures .1) (c .before .before .before .key .ensures)
-
-wide16-requires : tie.Need-wide16-requires
-wide16-requires c κs = search needs
-
-put-many-requires : tie.Need-put-many-requires
-put-many-requires c κs = search needs
-
-same-length-2 : tie.Need-same-length-2
-same-length-2 c = search needs
 
 returns-2 : tie.Need-returns-2
 returns-2 c =
@@ -37,12 +16,12 @@ pub finish-spec : {M : Type 1} → statement M
 finish-spec =
     tie.close
     (tie.spec
-    list-type-requires
-    key-requires
-    put16-requires
-    same-length
+    (λ c κs. search needs)
+    (λ c κs. search needs)
+    (λ c κs. search needs)
+    (λ c. search needs)
     returns
-    wide16-requires
-    put-many-requires
-    same-length-2
+    (λ c κs. search needs)
+    (λ c κs. search needs)
+    (λ c. search needs)
     returns-2)

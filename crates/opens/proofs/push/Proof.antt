@@ -5,21 +5,6 @@ use borrow.Author.Needs.{needs}
 use Rattle.opens.proofs.push.Statement.{statement}
 use Rattle.opens.proofs.push.Tie as tie
 
-mul-put16 : tie.Need-mul-put16
-mul-put16 c = search needs
-
-put16-requires : tie.Need-put16-requires
-put16-requires c κs = search needs
-
-put16-requires-2 : tie.Need-put16-requires-2
-put16-requires-2 c κs = search needs
-
-put16-requires-3 : tie.Need-put16-requires-3
-put16-requires-3 c κs = search needs
-
-same-length : tie.Need-same-length
-same-length c = search needs
-
 returns : tie.Need-returns
 returns c =
     three-stores (c .before .before .before .before .before .before .before .before .before .before .before .before .before .args .stack .now) (c .before .before .before .before .before .before .before .before .before .before .put16 .last .0) (c .before .before .before .before .before .before .put162 .last .0) (c .before .before .put163 .last .0) (3 * c .before .before .before .before .before .before .before .before .before .before .before .before .before .args .depth) (c .before .before .before .before .before .before .before .before .before .before .put16 .result) (c .before .before .before .before .before .before .put162 .result) (c .before .before .before .before .before .before .before .before .before .before .before .before .before .args .o .what) (c .before .before .before .before .before .before .before .before .before .before .before .before .before .args .o .more) (c .before .before .before .before .before .before .before .before .before .before .before .before .before .args .o .field) (c .before .before .before .before .before .before .before .before .before .before .put16 .ensures .0) (c .before .before .before .before .before .before .put162 .ensures .0) (c .before .before .before .before .before .before .before .before .before .before .put16 .ensures .1) (c .before .before .before .before .before .before .put162 .ensures .1) (c .before .before .put163 .ensures .1)
@@ -27,4 +12,4 @@ returns c =
 pub push-spec : {M : Type 1} → statement M
 push-spec =
     tie.close
-    (tie.spec mul-put16 put16-requires put16-requires-2 put16-requires-3 same-length returns)
+    (tie.spec (λ c. search needs) (λ c κs. search needs) (λ c κs. search needs) (λ c κs. search needs) (λ c. search needs) returns)

@@ -4,24 +4,6 @@ use borrow.Author.Needs.{needs}
 use Rattle.opens.proofs.top.Statement.{statement}
 use Rattle.opens.proofs.top.Tie as tie
 
-mul-i : tie.Need-mul-i
-mul-i c = search needs
-
-at16-requires : tie.Need-at16-requires
-at16-requires c κs = search needs
-
-add-at16 : tie.Need-add-at16
-add-at16 c = search needs
-
-at16-requires-2 : tie.Need-at16-requires-2
-at16-requires-2 c κs = search needs
-
-add-at16-2 : tie.Need-add-at16-2
-add-at16-2 c = search needs
-
-at16-requires-3 : tie.Need-at16-requires-3
-at16-requires-3 c κs = search needs
-
 returns : tie.Need-returns
 returns c =
     same-open (c .before .before .at16 .ensures) (c .before .at162 .ensures) (c .at163 .ensures)
@@ -29,4 +11,4 @@ returns c =
 pub top-spec : {M : Type 1} → statement M
 top-spec =
     tie.close
-    (tie.spec mul-i at16-requires add-at16 at16-requires-2 add-at16-2 at16-requires-3 returns)
+    (tie.spec (λ c. search needs) (λ c κs. search needs) (λ c. search needs) (λ c κs. search needs) (λ c. search needs) (λ c κs. search needs) returns)

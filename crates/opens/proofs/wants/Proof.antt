@@ -8,12 +8,9 @@ returns : tie.Need-returns
 returns c =
     wants-more (c .before .args .what) (c .before .args .more) (c .if1 .taken)
 
-is-tailed-requires : tie.Need-is-tailed-requires
-is-tailed-requires c κs = search needs
-
 returns-2 : tie.Need-returns-2
 returns-2 c =
     wants-tail (c .before .before .args .what) (c .before .before .args .more) (c .is-tailed .result) (c .before .if1 .left) (c .is-tailed .ensures)
 
 pub wants-spec : {M : Type 1} → statement M
-wants-spec = tie.close (tie.spec returns is-tailed-requires returns-2)
+wants-spec = tie.close (tie.spec returns (λ c κs. search needs) returns-2)

@@ -7,11 +7,8 @@ use Rattle.outcomes.proofs.fit.Tie as tie
 returns : tie.Need-returns
 returns c = fits-not (c .before .args .at) (c .before .args .rows) (c .if1 .taken)
 
-add-t4 : tie.Need-add-t4
-add-t4 c = search needs
-
 returns-2 : tie.Need-returns-2
 returns-2 c = fits (c .before .args .at) (c .before .args .rows) (c .if1 .left)
 
 pub fit-spec : {M : Type 1} → statement M
-fit-spec = tie.close (tie.spec returns add-t4 returns-2)
+fit-spec = tie.close (tie.spec returns (λ c. search needs) returns-2)

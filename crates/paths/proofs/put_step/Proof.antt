@@ -10,28 +10,16 @@ use borrow.Author.Needs.{needs}
 use Rattle.paths.proofs.put_step.Statement.{statement}
 use Rattle.paths.proofs.put_step.Tie as tie
 
-put16-requires : tie.Need-put16-requires
-put16-requires c κs = search needs
-
-same-length : tie.Need-same-length
-same-length c = search needs
-
 returns : tie.Need-returns
 returns c =
     let a = c .before .before .before .before .before .before .before .args in
     let p = c .before .before .before .put16 in
     put-alone (a .arities .now) (a .out .now) (a .node) (a .set) (a .at) (c .if1 .taken) (p .result) (p .last .0) (p .ensures .0) (p .ensures .1)
 
-arity-requires : tie.Need-arity-requires
-arity-requires c κs = search needs
-
 put-wilds-requires : tie.Need-put-wilds-requires
 put-wilds-requires c κs =
     let a = c .before .before .before .before .before .before .before .before .before .args in
     omega (arith, c .before .before .before .before .before .put16 .ensures .0, c .before .arity .ensures, arity-byte (a .arities .now) (λ i. omega (arith, c .before .before .before .before .before .before .before .before .shared-slice-known .given i)) (a .node), c .before .before .before .before .before .before .before .before .before .pre)
-
-same-length-2 : tie.Need-same-length-2
-same-length-2 c = search needs
 
 returns-2 : tie.Need-returns-2
 returns-2 c =
@@ -45,10 +33,10 @@ pub put-step-spec : {M : Type 1} → statement M
 put-step-spec =
     tie.close
     (tie.spec
-    put16-requires
-    same-length
+    (λ c κs. search needs)
+    (λ c. search needs)
     returns
-    arity-requires
+    (λ c κs. search needs)
     put-wilds-requires
-    same-length-2
+    (λ c. search needs)
     returns-2)

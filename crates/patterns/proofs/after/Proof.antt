@@ -6,21 +6,6 @@ use borrow.Author.Needs.{needs}
 use Rattle.patterns.proofs.after.Statement.{statement}
 use Rattle.patterns.proofs.after.Tie as tie
 
-at8-requires : tie.Need-at8-requires
-at8-requires c κs = search needs
-
-add-at8 : tie.Need-add-at8
-add-at8 c = search needs
-
-at8-requires-2 : tie.Need-at8-requires-2
-at8-requires-2 c κs = search needs
-
-wide8-requires : tie.Need-wide8-requires
-wide8-requires c κs = search needs
-
-size-requires : tie.Need-size-requires
-size-requires c κs = search needs
-
 add-result : tie.Need-add-result
 add-result c =
     omega (arith, c .size .ensures .1)
@@ -32,4 +17,4 @@ returns c =
 pub after-spec : {M : Type 1} → statement M
 after-spec =
     tie.close
-    (tie.spec at8-requires add-at8 at8-requires-2 wide8-requires size-requires add-result returns)
+    (tie.spec (λ c κs. search needs) (λ c. search needs) (λ c κs. search needs) (λ c κs. search needs) (λ c κs. search needs) add-result returns)

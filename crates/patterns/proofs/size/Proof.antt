@@ -5,18 +5,6 @@ use borrow.Author.Needs.{needs}
 use Rattle.patterns.proofs.size.Statement.{statement}
 use Rattle.patterns.proofs.size.Tie as tie
 
-add-result : tie.Need-add-result
-add-result c = search needs
-
-add-result-2 : tie.Need-add-result-2
-add-result-2 c = search needs
-
-add-result-3 : tie.Need-add-result-3
-add-result-3 c = search needs
-
-add-result-4 : tie.Need-add-result-4
-add-result-4 c = search needs
-
 returns : tie.Need-returns
 returns c =
     (sized (c .before .args .what) (c .before .args .l) 0 (c .match .keys1), omega arith)
@@ -57,10 +45,10 @@ pub size-spec : {M : Type 1} → statement M
 size-spec =
     tie.close
     (tie.spec
-    add-result
-    add-result-2
-    add-result-3
-    add-result-4
+    (λ c. search needs)
+    (λ c. search needs)
+    (λ c. search needs)
+    (λ c. search needs)
     returns
     returns-2
     returns-3

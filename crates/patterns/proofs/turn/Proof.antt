@@ -9,40 +9,10 @@ use borrow.Author.Needs.{needs}
 use Rattle.patterns.proofs.turn.Statement.{statement}
 use Rattle.patterns.proofs.turn.Tie as tie
 
-suits-requires : tie.Need-suits-requires
-suits-requires c κs = search needs
-
-enum-told : tie.Need-enum-told
-enum-told c = search needs
-
-enum-told-2 : tie.Need-enum-told-2
-enum-told-2 c = search needs
-
-enum-known-s : tie.Need-enum-known-s
-enum-known-s c = search needs
-
-leaf-requires : tie.Need-leaf-requires
-leaf-requires c κs = search needs
-
-enum-known-s-2 : tie.Need-enum-known-s-2
-enum-known-s-2 c = search needs
-
-list-requires : tie.Need-list-requires
-list-requires c κs = search needs
-
-begin-requires : tie.Need-begin-requires
-begin-requires c κs = search needs
-
-enum-known-s-3 : tie.Need-enum-known-s-3
-enum-known-s-3 c = search needs
-
 key-requires : tie.Need-key-requires
 key-requires c κs =
     let k = known (c .before .before .before .before .before .before .before .before .before .before .before .before .before .args .bytes .now) (c .before .before .before .before .before .before .before .before .before .before .before .before .before .args .kinds .now) (c .before .before .before .before .before .before .before .before .before .before .before .before .before .args .counts .now) (c .before .before .before .before .before .before .before .before .before .before .before .before .before .args .arities .now) (c .before .before .before .before .before .before .before .before .before .before .before .before .before .args .starts .now) (c .before .before .before .before .before .before .before .before .before .before .before .before .before .args .fields .now) (c .before .before .before .before .before .before .before .before .before .before .before .before .before .args .at) (c .before .before .before .before .before .before .before .before .before .before .before .before .before .args .t) (c .before .before .before .before .before .before .before .before .before .before .before .before .before .args .depth) (c .before .before .before .before .before .before .before .before .before .before .before .before .before .args .place) (c .before .before .before .before .before .before .before .before .before .before .before .before .before .args .stack .now) (c .before .before .before .before .before .before .before .before .before .before .before .before .before .args .nodes .now) (λ i. c .before .before .before .before .before .before .before .before .before .before .before .before .shared-slice-known .given i .fits) (λ i. c .before .before .before .before .before .before .before .before .before .shared-slice-known4 .given i .fits) (c .before .before .before .before .before .before .before .before .before .before .before .before .before .pre .0 .0) (c .before .before .before .before .before .before .before .before .before .before .before .before .before .pre .0 .1) (c .before .before .before .before .before .before .before .before .before .before .before .before .before .pre .1 .1 .1) (Args (c .before .before .s3 .given .0 .0) (c .before .before .s3 .given .0 .1 .0) (c .before .before .s3 .given .0 .1 .1 .0)) (sym (c .before .before .s3 .given .1) ∙ c .before .before .before .before .suits .ensures) in
     (c .before .before .before .before .before .before .before .before .before .before .before .before .before .pre .0 .1, omega (arith, k .2))
-
-put16-requires : tie.Need-put16-requires
-put16-requires c κs = search needs
 
 ctor-requires : tie.Need-ctor-requires
 ctor-requires c κs =
@@ -101,17 +71,17 @@ pub turn-spec : {M : Type 1} → statement M
 turn-spec =
     tie.close
     (tie.spec
-    suits-requires
-    enum-told
-    enum-told-2
-    enum-known-s
-    leaf-requires
-    enum-known-s-2
-    list-requires
-    begin-requires
-    enum-known-s-3
+    (λ c κs. search needs)
+    (λ c. search needs)
+    (λ c. search needs)
+    (λ c. search needs)
+    (λ c κs. search needs)
+    (λ c. search needs)
+    (λ c κs. search needs)
+    (λ c κs. search needs)
+    (λ c. search needs)
     key-requires
-    put16-requires
+    (λ c κs. search needs)
     ctor-requires
     begin-requires-2
     returns

@@ -5,7 +5,6 @@ use native.Mathlib.Omega.{arith}
 use Prim.Native.Nat.{ℕ, _≤_}
 use lib.ListN.{length, take, drop, replicate, length-append, length-drop, length-replicate}
 use lib.Seq.{length-take-le}
-use borrow.Author.Needs.{needs}
 use Rattle.replay.proofs.answer.Statement.{statement}
 use Rattle.replay.proofs.answer.Tie as tie
 

@@ -8,9 +8,6 @@ use Rattle.replay.proofs.write_first.Tie as tie
 print-decimal-requires : tie.Need-print-decimal-requires
 print-decimal-requires c κs = tt
 
-slice-aggregate-write-all : tie.Need-slice-aggregate-write-all
-slice-aggregate-write-all c = search needs
-
 write-all-requires : tie.Need-write-all-requires
 write-all-requires c κs = tt
 
@@ -29,7 +26,7 @@ write-first-spec =
     tie.close
     (tie.spec
     print-decimal-requires
-    slice-aggregate-write-all
+    (λ c. search needs)
     write-all-requires
     slice-aggregate-write-all-2
     write-all-requires-2

@@ -8,21 +8,9 @@ use borrow.Author.Needs.{needs}
 use Rattle.settle.proofs.leaf.Statement.{statement}
 use Rattle.settle.proofs.leaf.Tie as tie
 
-put16-requires : tie.Need-put16-requires
-put16-requires c κs = search needs
-
-settle-requires : tie.Need-settle-requires
-settle-requires c κs = search needs
-
-same-length : tie.Need-same-length
-same-length c = search needs
-
-same-length-2 : tie.Need-same-length-2
-same-length-2 c = search needs
-
 returns : tie.Need-returns
 returns c =
     λ bytes. subst₂ (λ (from : ℕ) (l : List ℕ). Settled bytes (c .before .before .before .before .before .before .before .before .before .before .before .before .before .before .args .fields .now) (opens (c .before .before .before .before .before .before .before .before .before .before .before .before .before .before .args .stack .now) (c .before .before .before .before .before .before .before .before .before .before .before .before .before .before .args .depth)) (c .before .before .before .before .before .before .before .before .before .before .before .before .before .before .args .depth) from l (c .before .before .before .before .settle .last .1 .0) (c .before .before .before .before .settle .last .1 .1 .1 .0) (c .before .before .before .before .settle .result)) (c .before .before .before .before .before .before .before .before .before .put16 .ensures .0) (c .before .before .before .before .before .before .before .before .before .put16 .ensures .1) (c .before .before .before .before .settle .ensures bytes)
 
 pub leaf-spec : {M : Type 1} → statement M
-leaf-spec = tie.close (tie.spec put16-requires settle-requires same-length same-length-2 returns)
+leaf-spec = tie.close (tie.spec (λ c κs. search needs) (λ c κs. search needs) (λ c. search needs) (λ c. search needs) returns)

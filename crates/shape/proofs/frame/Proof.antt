@@ -11,15 +11,6 @@ frame-read : (c : tie.After-r) → Reached (frame (c .before .before .before .be
 frame-read c =
     reached (frame (c .before .before .before .before .args .kind)) (frame-keeps (c .before .before .before .before .args .kind)) (c .before .before .before .before .args .bytes .now) (c .before .before .before .before .args .at) (c .r .given .0 .0) (c .before .before .held .result) (c .before .before .before .before .pre .0) (c .before .before .held .ensures) (c .r .given .1)
 
-held-requires : tie.Need-held-requires
-held-requires c κs = search needs
-
-enum-known-r : tie.Need-enum-known-r
-enum-known-r c = search needs
-
-enum-told : tie.Need-enum-told
-enum-told c = search needs
-
 returns : tie.Need-returns
 returns c =
     whole-fault (length (c .before .before .before .before .args .bytes .now)) (frame (c .before .before .before .before .args .kind) (drop (c .before .before .before .before .args .at) (c .before .before .before .before .args .bytes .now))) (c .before .before .held .result) (c .enum-told .given .0 .0) (c .before .before .held .ensures) (c .enum-told .given .1)
@@ -33,4 +24,4 @@ returns-3 c =
     whole-done (frame (c .before .before .before .before .before .before .args .kind)) (c .before .before .before .before .before .before .args .bytes .now) (c .before .before .before .before .before .before .args .at) (c .before .before .r .given .0 .0) (frame-read (c .before .before)) (c .if1 .left)
 
 pub frame-spec : {M : Type 1} → statement M
-frame-spec = tie.close (tie.spec held-requires enum-known-r enum-told returns returns-2 returns-3)
+frame-spec = tie.close (tie.spec (λ c κs. search needs) (λ c. search needs) (λ c. search needs) returns returns-2 returns-3)

@@ -5,16 +5,10 @@ use borrow.Author.Needs.{needs}
 use Rattle.sound.proofs.has_value.Statement.{statement}
 use Rattle.sound.proofs.has_value.Tie as tie
 
-at8-requires : tie.Need-at8-requires
-at8-requires c κs = search needs
-
 returns : tie.Need-returns
 returns c =
     let a = c .before .before .before .before .before .before .before .args in
     value-simple (a .kinds .now) (a .counts .now) (a .arities .now) (a .starts .now) (a .fields .now) (a .known) (a .t) _ (c .before .at8 .ensures) (c .if1 .taken)
-
-some-ctor-requires : tie.Need-some-ctor-requires
-some-ctor-requires c κs = search needs
 
 returns-2 : tie.Need-returns-2
 returns-2 c =
@@ -22,4 +16,4 @@ returns-2 c =
     c .some-ctor .ensures ∙ value-ctors (a .kinds .now) (a .counts .now) (a .arities .now) (a .starts .now) (a .fields .now) (a .known) (a .t) _ (c .before .before .at8 .ensures) (c .before .if1 .left)
 
 pub has-value-spec : {M : Type 1} → statement M
-has-value-spec = tie.close (tie.spec at8-requires returns some-ctor-requires returns-2)
+has-value-spec = tie.close (tie.spec (λ c κs. search needs) returns (λ c κs. search needs) returns-2)

@@ -11,16 +11,10 @@ returns c =
     let a = c .before .before .before .before .before .before .args in
     no-subject (a .kinds .now) (a .counts .now) (a .arities .now) (a .starts .now) (a .fields .now) (a .used) (a .types) (a .subject) (c .if1 .taken)
 
-refs-good-requires : tie.Need-refs-good-requires
-refs-good-requires c κs = search needs
-
 returns-2 : tie.Need-returns-2
 returns-2 c =
     let a = c .before .before .before .before .before .before .before .before .args in
     no-field (a .kinds .now) (a .counts .now) (a .arities .now) (a .starts .now) (a .fields .now) (a .used) (a .types) (a .subject) (c .before .before .if1 .left) (sym (not-true _ (c .if2 .taken)) ∙ c .before .refs-good .ensures)
-
-all-finite-requires : tie.Need-all-finite-requires
-all-finite-requires c κs = search needs
 
 returns-3 : tie.Need-returns-3
 returns-3 c =
@@ -30,4 +24,4 @@ returns-3 c =
 
 pub is-sound-spec : {M : Type 1} → statement M
 is-sound-spec =
-    tie.close (tie.spec returns refs-good-requires returns-2 all-finite-requires returns-3)
+    tie.close (tie.spec returns (λ c κs. search needs) returns-2 (λ c κs. search needs) returns-3)

@@ -5,48 +5,6 @@ use borrow.Author.Needs.{needs}
 use Rattle.suits.proofs.applied.Statement.{statement}
 use Rattle.suits.proofs.applied.Tie as tie
 
-add-at8 : tie.Need-add-at8
-add-at8 c = search needs
-
-at8-requires : tie.Need-at8-requires
-at8-requires c κs = search needs
-
-wide8-requires : tie.Need-wide8-requires
-wide8-requires c κs = search needs
-
-add-at8-2 : tie.Need-add-at8-2
-add-at8-2 c = search needs
-
-at8-requires-2 : tie.Need-at8-requires-2
-at8-requires-2 c κs = search needs
-
-wide8-requires-2 : tie.Need-wide8-requires-2
-wide8-requires-2 c κs = search needs
-
-add-at8-3 : tie.Need-add-at8-3
-add-at8-3 c = search needs
-
-at8-requires-3 : tie.Need-at8-requires-3
-at8-requires-3 c κs = search needs
-
-args-requires : tie.Need-args-requires
-args-requires c κs = search needs
-
-on-kind-requires : tie.Need-on-kind-requires
-on-kind-requires c κs = search needs
-
-args-requires-2 : tie.Need-args-requires-2
-args-requires-2 c κs = search needs
-
-on-kind-requires-2 : tie.Need-on-kind-requires-2
-on-kind-requires-2 c κs = search needs
-
-args-requires-3 : tie.Need-args-requires-3
-args-requires-3 c κs = search needs
-
-on-kind-requires-3 : tie.Need-on-kind-requires-3
-on-kind-requires-3 c κs = search needs
-
 returns : tie.Need-returns
 returns c =
     λ kinds x wIs kIs h. is-ctor (c .before .before .before .before .before .before .before .before .before .before .before .args .bytes .now) kinds (c .before .before .before .before .before .before .before .before .before .before .before .args .counts .now) (c .before .before .before .before .before .before .before .before .before .before .before .args .arities .now) (c .before .before .before .before .before .before .before .before .before .before .before .args .at) (c .before .before .before .before .before .before .before .before .before .before .before .args .t) (c .before .before .before .before .before .before .before .before .before .before .before .args .what) (c .before .before .before .before .before .before .before .before .before .before .before .args .kind) wIs kIs (c .before .before .before .before .before .before .wide8 .result) (c .before .before .before .before .wide82 .result) (c .before .before .before .at83 .result) (c .before .args2 .result) (c .on-kind .result) (c .before .before .match .keys1) (c .before .before .before .before .before .before .wide8 .ensures ∙ c .before .before .before .before .before .before .before .at8 .ensures) (c .before .before .before .before .wide82 .ensures ∙ c .before .before .before .before .before .at82 .ensures) (c .before .before .before .at83 .ensures) (c .before .args2 .ensures) (c .on-kind .ensures)
@@ -63,20 +21,20 @@ pub applied-spec : {M : Type 1} → statement M
 applied-spec =
     tie.close
     (tie.spec
-    add-at8
-    at8-requires
-    wide8-requires
-    add-at8-2
-    at8-requires-2
-    wide8-requires-2
-    add-at8-3
-    at8-requires-3
-    args-requires
-    on-kind-requires
-    args-requires-2
-    on-kind-requires-2
-    args-requires-3
-    on-kind-requires-3
+    (λ c. search needs)
+    (λ c κs. search needs)
+    (λ c κs. search needs)
+    (λ c. search needs)
+    (λ c κs. search needs)
+    (λ c κs. search needs)
+    (λ c. search needs)
+    (λ c κs. search needs)
+    (λ c κs. search needs)
+    (λ c κs. search needs)
+    (λ c κs. search needs)
+    (λ c κs. search needs)
+    (λ c κs. search needs)
+    (λ c κs. search needs)
     returns
     returns-2
     returns-3)

@@ -5,45 +5,6 @@ use borrow.Author.Needs.{needs}
 use Rattle.suits.proofs.suits.Statement.{statement}
 use Rattle.suits.proofs.suits.Tie as tie
 
-at8-requires : tie.Need-at8-requires
-at8-requires c κs = search needs
-
-at8-requires-2 : tie.Need-at8-requires-2
-at8-requires-2 c κs = search needs
-
-add-low : tie.Need-add-low
-add-low c = search needs
-
-low-requires : tie.Need-low-requires
-low-requires c κs = search needs
-
-on-kind-requires : tie.Need-on-kind-requires
-on-kind-requires c κs = search needs
-
-on-kind-requires-2 : tie.Need-on-kind-requires-2
-on-kind-requires-2 c κs = search needs
-
-add-at8 : tie.Need-add-at8
-add-at8 c = search needs
-
-at8-requires-3 : tie.Need-at8-requires-3
-at8-requires-3 c κs = search needs
-
-wide8-requires : tie.Need-wide8-requires
-wide8-requires c κs = search needs
-
-add-at8-2 : tie.Need-add-at8-2
-add-at8-2 c = search needs
-
-at8-requires-4 : tie.Need-at8-requires-4
-at8-requires-4 c κs = search needs
-
-on-kind-requires-3 : tie.Need-on-kind-requires-3
-on-kind-requires-3 c κs = search needs
-
-applied-requires : tie.Need-applied-requires
-applied-requires c κs = search needs
-
 returns : tie.Need-returns
 returns c =
     is-discard (c .before .before .before .before .before .before .before .before .args .bytes .now) (c .before .before .before .before .before .before .before .before .args .kinds .now) (c .before .before .before .before .before .before .before .before .args .counts .now) (c .before .before .before .before .before .before .before .before .args .arities .now) (c .before .before .before .before .before .before .before .before .args .at) (c .before .before .before .before .before .before .before .before .args .t) (c .before .before .before .at8 .result) (c .before .before .at82 .result) (c .before .before .before .at8 .ensures) (c .before .before .at82 .ensures) (c .match .keys1)
@@ -76,19 +37,19 @@ pub suits-spec : {M : Type 1} → statement M
 suits-spec =
     tie.close
     (tie.spec
-    at8-requires
-    at8-requires-2
-    add-low
-    low-requires
-    on-kind-requires
-    on-kind-requires-2
-    add-at8
-    at8-requires-3
-    wide8-requires
-    add-at8-2
-    at8-requires-4
-    on-kind-requires-3
-    applied-requires
+    (λ c κs. search needs)
+    (λ c κs. search needs)
+    (λ c. search needs)
+    (λ c κs. search needs)
+    (λ c κs. search needs)
+    (λ c κs. search needs)
+    (λ c. search needs)
+    (λ c κs. search needs)
+    (λ c κs. search needs)
+    (λ c. search needs)
+    (λ c κs. search needs)
+    (λ c κs. search needs)
+    (λ c κs. search needs)
     returns
     returns-2
     returns-3

@@ -3,7 +3,6 @@ use mathlib.Core.Path.{refl, ap, _∙_}
 use Prim.Native.Nat.{_+_, _-_}
 use native.Mathlib.Omega.{arith}
 use Rattle.table.proofs.Stores.{ctor-stored}
-use borrow.Author.Needs.{needs}
 use Rattle.table.proofs.add_ctor.Statement.{statement}
 use Rattle.table.proofs.add_ctor.Tie as tie
 

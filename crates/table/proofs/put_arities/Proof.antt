@@ -13,9 +13,6 @@ at8-requires : tie.Need-at8-requires
 at8-requires c κs =
     tt
 
-slice-aggregate-put-fields : tie.Need-slice-aggregate-put-fields
-slice-aggregate-put-fields c = search needs
-
 put-fields-requires : tie.Need-put-fields-requires
 put-fields-requires c κs =
     omega (arith, c .before .before .before .before .before .before .pre)
@@ -73,7 +70,7 @@ put-arities-spec =
     tie.close
     (tie.spec
     at8-requires
-    slice-aggregate-put-fields
+    (λ c. search needs)
     put-fields-requires
     same-length
     returns

@@ -1,7 +1,6 @@
 -- `table::put_parts` meets its contract: the flag decides.
 use native.Mathlib.Omega.{arith}
 use Rattle.table.proofs.Stores.{bare-parts, labelled-parts}
-use borrow.Author.Needs.{needs}
 use Rattle.table.proofs.put_parts.Statement.{statement}
 use Rattle.table.proofs.put_parts.Tie as tie
 

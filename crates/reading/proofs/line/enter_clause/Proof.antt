@@ -19,12 +19,6 @@ simplify-requires : tie.Need-simplify-requires
 simplify-requires c κs =
     c .before .before .before .before .before .before .before .before .before .pre .0 _ (omega (arith, length-replicate {A = ℕ} 1920 0))
 
-enum-known-r : tie.Need-enum-known-r
-enum-known-r c = search needs
-
-enum-told : tie.Need-enum-told
-enum-told c = search needs
-
 returns : tie.Need-returns
 returns c =
     unsuited (simplified-as (c .enum-told .given .1) (c .before .before .before .simplify .ensures))
@@ -57,9 +51,6 @@ element-write-left : tie.Need-element-write-left
 element-write-left c =
     omega (arith, nodes-fit (c .before .before .before .before .before .before .before .before .before .before .before .before .before .before .before .before .args .s .count) (c .before .before .before .r .given .0 .0) (c .before .has-nodes .ensures) (c .if1 .left), c .before .before .before .before .before .before .before .before .before .before .before .before .before .before .before .before .pre .1 .0, c .before .before .before .before .before .before .before .before .before .before .before .before .before .before .before .before .pre .1 .1 .0)
 
-cast-rows : tie.Need-cast-rows
-cast-rows c = search needs
-
 mul-rows : tie.Need-mul-rows
 mul-rows c =
     omega (arith, c .before .before .before .before .before .before .before .before .before .before .before .before .before .before .before .before .pre .1 .1 .0)
@@ -90,8 +81,8 @@ enter-clause-spec =
     (tie.spec
     slice-aggregate-simplify
     simplify-requires
-    enum-known-r
-    enum-told
+    (λ c. search needs)
+    (λ c. search needs)
     returns
     has-nodes-requires
     returns-2
@@ -100,7 +91,7 @@ enter-clause-spec =
     element-write-nodes
     mul-left
     element-write-left
-    cast-rows
+    (λ c. search needs)
     mul-rows
     element-write-rows
     add-t36

@@ -10,9 +10,6 @@ sub-t : tie.Need-sub-t
 sub-t c =
     c .before .before .pre .1 .0
 
-is-fresh-requires : tie.Need-is-fresh-requires
-is-fresh-requires c κs = search needs
-
 returns : tie.Need-returns
 returns c =
     stale (sym (c .before .is-fresh .ensures) ∙ not-true _ (c .if1 .taken))
@@ -30,7 +27,7 @@ enter-ctor-spec =
     tie.close
     (tie.spec
     sub-t
-    is-fresh-requires
+    (λ c κs. search needs)
     returns
     add-ctor-requires
     returns-2)

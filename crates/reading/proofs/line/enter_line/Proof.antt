@@ -5,18 +5,9 @@ use borrow.Author.Needs.{needs}
 use Rattle.reading.proofs.line.enter_line.Statement.{statement}
 use Rattle.reading.proofs.line.enter_line.Tie as tie
 
-last-ctors-requires : tie.Need-last-ctors-requires
-last-ctors-requires c κs = search needs
-
 kind-of-requires : tie.Need-kind-of-requires
 kind-of-requires c κs =
     (c .before .before .before .pre .1 .0, omega (arith, c .before .before .before .pre .1 .1 .0))
-
-enum-known-k : tie.Need-enum-known-k
-enum-known-k c = search needs
-
-enum-known-k-2 : tie.Need-enum-known-k-2
-enum-known-k-2 c = search needs
 
 add-from : tie.Need-add-from
 add-from c =
@@ -65,9 +56,6 @@ returns-4 c =
     let k = as-kind (c .before .before .before .before .before .before .before .before .before .before .before .before .before .before .before .before .before .before .before .before .args .bytes .now) (c .before .before .before .before .before .before .before .before .before .before .before .before .before .before .before .before .before .before .before .before .args .at) (c .before .before .before .before .before .before .before .before .before .before .before .before .before .before .before .before .before .before .before .before .args .s) (c .before .before .before .before .before .before .before .before .before .before .before .before .before .before .before .before .before .last-ctors .result) (c .before .before .before .before .before .before .before .before .before .before .before .before .before .before .before .before .kind-of .result) (c .before .before .before .before .before .before .before .before .before .before .before .before .before .before .before .before .kind-of .ensures) (c .before .before .before .before .before .before .before .before .before .before .before .before .before .before .k2 .given .0 .0) (c .before .before .before .before .before .before .before .before .before .before .before .before .before .before .k2 .given .1) in
     λ σ w. clause-line w (c .before .before .before .before .before .before .before .before .before .before .before .before .before .before .before .before .before .last-ctors .result) (c .before .before .before .before .before .before .before .before .before .before .before .before .before .before .before .before .before .last-ctors .ensures) (c .before .before .before .before .before .before .before .before .before .before .before .before .before .before .before .before .before .before .before .before .args .at) (c .before .before .before .before .before .before .before .before .before .before .before .before .before .before .before .before .before .before .before .before .pre .1 .0) (c .before .before .before .before .before .before .before .before .before .before .before .before .before .before .k2 .given .0 .0) (k .0) (k .1 .0) (k .1 .1) (c .before .before .before .before .before .before .before .before .before .before .before .before .before .before .before .before .before .before .before .before .pre .1 .1 .0) (c .before .before .before .before .before .before .before .before .before .if4 .taken) (c .enter-clause .result) (c .enter-clause .ensures)
 
-enter-end-requires : tie.Need-enter-end-requires
-enter-end-requires c κs = search needs
-
 returns-5 : tie.Need-returns-5
 returns-5 c =
     λ σ w. line-refused w (c .before .before .before .before .last-ctors .result) (c .before .before .before .before .last-ctors .ensures) (c .before .before .before .before .before .before .before .args .at) (c .before .k .given .0 .0) (as-refused (c .before .before .before .before .before .before .before .args .bytes .now) (c .before .before .before .before .before .before .before .args .at) (c .before .before .before .before .before .before .before .args .s) (c .before .before .before .before .last-ctors .result) (c .before .before .before .kind-of .result) (c .before .before .before .kind-of .ensures) (c .before .k .given .0 .0) (c .before .k .given .1))
@@ -81,10 +69,10 @@ pub enter-line-spec : {M : Type 1} → statement M
 enter-line-spec =
     tie.close
     (tie.spec
-    last-ctors-requires
+    (λ c κs. search needs)
     kind-of-requires
-    enum-known-k
-    enum-known-k-2
+    (λ c. search needs)
+    (λ c. search needs)
     add-from
     enter-type-requires
     returns
@@ -94,6 +82,6 @@ enter-line-spec =
     returns-3
     enter-clause-requires
     returns-4
-    enter-end-requires
+    (λ c κs. search needs)
     returns-5
     returns-6)

@@ -7,12 +7,6 @@ use borrow.Author.Needs.{needs}
 use Rattle.reading.proofs.line.enter_subject.Statement.{statement}
 use Rattle.reading.proofs.line.enter_subject.Tie as tie
 
-at8-requires : tie.Need-at8-requires
-at8-requires c κs = search needs
-
-wide8-requires : tie.Need-wide8-requires
-wide8-requires c κs = search needs
-
 is-sound-requires : tie.Need-is-sound-requires
 is-sound-requires c κs =
     c .before .before .before .before .before .before .before .before .pre
@@ -29,8 +23,8 @@ pub enter-subject-spec : {M : Type 1} → statement M
 enter-subject-spec =
     tie.close
     (tie.spec
-    at8-requires
-    wide8-requires
+    (λ c κs. search needs)
+    (λ c κs. search needs)
     is-sound-requires
     returns
     returns-2)

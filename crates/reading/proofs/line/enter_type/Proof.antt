@@ -9,9 +9,6 @@ add-type-requires : tie.Need-add-type-requires
 add-type-requires c κs =
     c .before .before .before .before .before .before .pre
 
-at8-requires : tie.Need-at8-requires
-at8-requires c κs = search needs
-
 returns : tie.Need-returns
 returns c =
     record { numbers = record { phaseIs = sym (type-phase-is _ _ (c .before .at8 .ensures) .0 (c .if1 .taken)); typesAre = c .before .before .add-type .ensures .0; ctorsAre = c .before .before .add-type .ensures .1 .0; fieldsAre = c .before .before .add-type .ensures .1 .1 .0; subjectIs = refl; clausesAre = refl; usedIs = refl; countIs = refl }; with = c .before .before .add-type .ensures .1 .1 .1 }
@@ -25,6 +22,6 @@ enter-type-spec =
     tie.close
     (tie.spec
     add-type-requires
-    at8-requires
+    (λ c κs. search needs)
     returns
     returns-2)
