@@ -8,7 +8,7 @@ use Rattle.scope.specs.Types.{Table}
 use Rattle.scope.specs.Report.{Findings, report}
 use Rattle.answers.specs.Answer.{Outcome, fitted}
 use Rattle.text.specs.Rows.{Slices}
-use Rattle.lines.specs.Findings.{Says}
+use Rattle.text.specs.Findings.{Says}
 use Rattle.fitting.specs.Given.{Given}
 
 pub one-given : {o : Outcome} {r s : Answer} {d a b : List ℕ} → Given o r d a → Given o s d b → (r ≡ s) × (a ≡ b)

@@ -1,12 +1,12 @@
 // The report fitted to its buffer: refusal 11.
 use answers::Answer;
-use lines::report as write_report;
+use text::lines::report as write_report;
 ghost use lib.ListN.{length};
 ghost use Rattle.scope.specs.Types.{Table};
 ghost use Rattle.scope.specs.Report.{Findings, report as reportText};
 ghost use Rattle.answers.specs.Answer.{fitted};
 ghost use Rattle.text.specs.Rows.{slices};
-ghost use Rattle.lines.specs.Findings.{Says, Small};
+ghost use Rattle.text.specs.Findings.{Says, Small};
 ghost use Rattle.fitting.specs.Given.{Given};
 
 // The report in its buffer, or refusal 11: it is measured first, over none of the buffer.

@@ -20,7 +20,7 @@ use Rattle.matrix.specs.Places.{Sizes, Starts}
 use Rattle.walks.proofs.BridgeTable.{starts-hold}
 use Rattle.text.specs.Rows.{slices}
 use Rattle.verdicts.specs.Verdicts.{said}
-use Rattle.lines.specs.Findings.{Says, Small}
+use Rattle.text.specs.Findings.{Says, Small}
 use Rattle.judging.specs.declared.Walks.the-variants.{Done, Over}
 use Rattle.fitting.specs.Given.{Given}
 use Rattle.judging.specs.Blocks.{Slices, Holds, Known}

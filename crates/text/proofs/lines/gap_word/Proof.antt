@@ -1,8 +1,8 @@
 -- `gap_word` meets its contract: one word or the other.
 use mathlib.Core.Path.{refl}
 use native.Mathlib.Omega.{arith}
-use Rattle.lines.proofs.gap_word.Statement.{statement}
-use Rattle.lines.proofs.gap_word.Tie as tie
+use Rattle.text.proofs.lines.gap_word.Statement.{statement}
+use Rattle.text.proofs.lines.gap_word.Tie as tie
 
 slice-aggregate-either : tie.Need-slice-aggregate-either
 slice-aggregate-either c =

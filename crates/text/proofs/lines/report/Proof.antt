@@ -1,9 +1,9 @@
 -- `report` meets its contract: all lines together.
 use mathlib.Core.Path.{_∙_}
 use native.Mathlib.Omega.{arith}
-use Rattle.lines.proofs.Reports.{report-law}
-use Rattle.lines.proofs.report.Statement.{statement}
-use Rattle.lines.proofs.report.Tie as tie
+use Rattle.text.proofs.Reports.{report-law}
+use Rattle.text.proofs.lines.report.Statement.{statement}
+use Rattle.text.proofs.lines.report.Tie as tie
 
 head-requires : tie.Need-head-requires
 head-requires c κs =

@@ -2,10 +2,10 @@
 use mathlib.Core.Path.{_≡_, refl, _∙_}
 use Prim.Native.Nat.{_-_}
 use native.Mathlib.Omega.{arith}
 use Rattle.text.specs.Rows.{slices}
-use Rattle.lines.proofs.Gaps.{Printing, gaps-none, gaps-next, gaps-all}
-use Rattle.lines.proofs.gap_lines.Statement.{statement}
-use Rattle.lines.proofs.gap_lines.Tie as tie
+use Rattle.text.proofs.Gaps.{Printing, gaps-none, gaps-next, gaps-all}
+use Rattle.text.proofs.lines.gap_lines.Statement.{statement}
+use Rattle.text.proofs.lines.gap_lines.Tie as tie
 
 abbrev Inv-loop : tie.InvT-loop
 Inv-loop bytes kinds arities starts names labels nodes gaps out₀ at next₀ p₀ i₀ out next p i =

@@ -14,12 +14,12 @@ use Rattle.scope.specs.Text.{skip, source, paste, alone}
 use Rattle.scope.specs.Report.{gapLines}
 use Rattle.writing.specs.Writing.{Wrote}
 use Rattle.looks.specs.Nodes.{modeOf}
 use Rattle.text.specs.Rows.{Slices, Tabled, rowAt, Begins}
 use Rattle.text.specs.Printing.{patternText, Many, Printed}
-use Rattle.lines.specs.Findings.{gapWord, gapText, gapsText}
+use Rattle.text.specs.Findings.{gapWord, gapText, gapsText}
 use Rattle.writing.proofs.Writing.{wrote-more, wrote-as}
 use Rattle.text.proofs.Rows.{skip-none, skip-add, begins-skip}
 use Rattle.text.proofs.Printing.{nothing}
 
 -- a word, the pattern, and the line feed
 pub text-printed : {s : Slices} {p q : ℕ} {a b c d : List ℕ} {at k l after : ℕ} (pasted : Bool)

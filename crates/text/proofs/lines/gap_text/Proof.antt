@@ -1,9 +1,9 @@
 -- `gap_text` meets its contract: the word, the pattern's text, the line feed.
 use mathlib.Core.Path.{_∙_}
 use native.Mathlib.Omega.{arith}
-use Rattle.lines.proofs.Gaps.{text-printed}
-use Rattle.lines.proofs.gap_text.Statement.{statement}
-use Rattle.lines.proofs.gap_text.Tie as tie
+use Rattle.text.proofs.Gaps.{text-printed}
+use Rattle.text.proofs.lines.gap_text.Statement.{statement}
+use Rattle.text.proofs.lines.gap_text.Tie as tie
 
 gap-word-requires : tie.Need-gap-word-requires
 gap-word-requires c κs =

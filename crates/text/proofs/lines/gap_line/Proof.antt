@@ -1,9 +1,9 @@
 -- `gap_line` meets its contract: the source's text, then the paste text.
 use mathlib.Core.Path.{_∙_}
 use native.Mathlib.Omega.{arith}
-use Rattle.lines.proofs.Gaps.{gap-printed}
-use Rattle.lines.proofs.gap_line.Statement.{statement}
-use Rattle.lines.proofs.gap_line.Tie as tie
+use Rattle.text.proofs.Gaps.{gap-printed}
+use Rattle.text.proofs.lines.gap_line.Statement.{statement}
+use Rattle.text.proofs.lines.gap_line.Tie as tie
 
 gap-text-requires : tie.Need-gap-text-requires
 gap-text-requires c κs =
