@@ -3,3 +3,5 @@ pub mod Answering
 pub mod Entry
 pub mod Printing
 pub mod Once
+mod Held
+mod Outcomes

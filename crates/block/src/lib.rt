@@ -1,9 +1,10 @@
 // The check of a file: the one entry, which asks nothing of its caller.
+use crate::driver::answer;
 use answers::Answer;
 use cells::clear;
-use driver::answer;
 ghost use Rattle.block.specs.Check.{Checked};
 
+mod driver;
 pub mod print;
 
 // The answer for a file, with the report in the report buffer; the scratch is zero afterwards.

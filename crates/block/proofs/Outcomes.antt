@@ -21,7 +21,7 @@ use Rattle.reading.specs.Files.{fileOf, ReadAs, aBlock, aFault}
 use Rattle.reading.proofs.Whole.{file-long, file-lines}
 use Rattle.fitting.specs.Given.{Given}
 use Rattle.judging.specs.Blocks.{Holds, Known}
-use Rattle.driver.proofs.Held.{handed, holds, known}
+use Rattle.block.proofs.Held.{handed, holds, known}
 
 -- a file is too long, or it is not
 by-length : {A : Type 0} (file : List ℕ) → (49152 < length file → A) → (length file ≤ 49152 → A) → A

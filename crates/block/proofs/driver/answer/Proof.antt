@@ -1,14 +1,14 @@
--- `driver::answer` meets its contract: the first fault of reading, else what is answered for the block.
+-- `block::driver::answer` meets its contract: the first fault of reading, else what is answered for the block.
 use mathlib.Core.Path.{refl, sym}
 use Prim.Native.Nat.{ℕ}
 use native.Mathlib.Omega.{arith}
 use lib.ListN.{length, length-replicate}
 use lib.Seq.{length-take-le}
 use Rattle.reading.specs.Said.{held}
-use Rattle.driver.proofs.Outcomes.{known-read, few-read, block-given, fault-given}
+use Rattle.block.proofs.Outcomes.{known-read, few-read, block-given, fault-given}
 use borrow.Author.Needs.{needs}
-use Rattle.driver.proofs.answer.Statement.{statement}
-use Rattle.driver.proofs.answer.Tie as tie
+use Rattle.block.proofs.driver.answer.Statement.{statement}
+use Rattle.block.proofs.driver.answer.Tie as tie
 
 read-requires : tie.Need-read-requires
 read-requires c κs =

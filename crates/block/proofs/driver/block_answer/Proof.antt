@@ -1,6 +1,6 @@
--- `driver::block_answer` meets its contract: it is that of `judged`.
-use Rattle.driver.proofs.block_answer.Statement.{statement}
-use Rattle.driver.proofs.block_answer.Tie as tie
+-- `block::driver::block_answer` meets its contract: it is that of `judged`.
+use Rattle.block.proofs.driver.block_answer.Statement.{statement}
+use Rattle.block.proofs.driver.block_answer.Tie as tie
 
 judged-requires : tie.Need-judged-requires
 judged-requires c κs =

@@ -1,3 +1,0 @@
--- What reading leaves, and what is answered for it.
-pub mod Held
-pub mod Outcomes
