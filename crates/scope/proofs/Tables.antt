@@ -1,11 +1,11 @@
 -- A table of files with what is said of each is right when one computed test passes over the whole of it.
 use mathlib.Core.List.{List, [], _∷_}
-use mathlib.Core.Path.{_≡_}
-use mathlib.Core.Bool.{Bool, true}
+use mathlib.Core.Path.{_≡_, refl}
+use mathlib.Core.Bool.{Bool, true, false, cond}
 use Prim.Native.Nat.{ℕ, zero, suc}
 use Prim.Native.String.{String, _++_}
-use Rattle.scope.specs.Lists.{Text, bytes, all, same}
-use Rattle.scope.proofs.Tests.{both, same-true}
+use Rattle.scope.specs.Lists.{Text, bytes, same}
+use Rattle.scope.proofs.Tests.{clash, same-true}
 
 -- n times the same text
 abbrev pub repeated : ℕ → String → String
@@ -26,6 +26,16 @@ AllRight says (e ∷ es) = (says (bytes (e .file)) ≡ bytes (e .text)) × AllRi
 abbrev pub isRight : (Text → Text) → Example → Bool
 isRight says e = same (says (bytes (e .file))) (bytes (e .text))
 
-pub by-test : (says : Text → Text) (es : List Example) → all (isRight says) es ≡ true → AllRight says es
+-- the first file of a table of which something else is said
+abbrev pub firstWrong : (Text → Text) → List Example → List String
+firstWrong says [] = []
+firstWrong says (e ∷ es) = let rest = firstWrong says es in cond (isRight says e) rest (e .file ∷ [])
+
+-- nothing else is said of the first example, nor of the others
+passed : (says : Text → Text) (e : Example) (rest : List String) (b : Bool) → isRight says e ≡ b → cond b rest (e .file ∷ []) ≡ [] → (says (bytes (e .file)) ≡ bytes (e .text)) × (rest ≡ [])
+passed says e rest true p q = (same-true (says (bytes (e .file))) (bytes (e .text)) p, q)
+passed says e rest false p q = clash (cc)
+
+pub by-test : (says : Text → Text) (es : List Example) → firstWrong says es ≡ [] → AllRight says es
 by-test says [] h = tt
-by-test says (e ∷ es) h = let p = both (isRight says e) (all (isRight says) es) h in (same-true (says (bytes (e .file))) (bytes (e .text)) (p .0), by-test says es (p .1))
+by-test says (e ∷ es) h = let p = passed says e (firstWrong says es) (isRight says e) refl h in (p .0, by-test says es (p .1))

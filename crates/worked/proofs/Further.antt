@@ -182,7 +182,7 @@ pub further-right : AllRight printed further
 unfolding answering
 further-right = by-test printed further refl
 
--- the files of the short table too
+-- the files that tell faults of a definition apart too
 pub telling-printed : AllRight printed telling
 unfolding answering
 telling-printed = by-test printed telling refl
