@@ -163,4 +163,4 @@ module _ (table : Table) where
         row : {r : Row} {p : Patterns} → Shows table (t ∷ ts) r p → ShowsOption (fieldsAt table t c ++ ts) (flat.specializeRowByCtor c (arity table t c) r) (rust.specializeRowByCtor panic (ctorAt table t c .name) (arity table t c) p)
         row (wilds k) = present (shows-wilds (fieldsAt table t c) ts k)
         row (lits {l = x} e k) = absurd (no-ctors t x e l)
-        row (cons {c = d} {args = args} {r = r} {ps = ps} made k) = rw (ctor-test c l made) (made-row d (eqb d c) refl k)
+        row (cons {c = d} {args = args} {r = r} {ps = ps} made k) = subst (λ (b : Bool). ShowsOption (fieldsAt table t c ++ ts) (flat.rowIf (eqb d c) r) (rust.rowIf b (args ++ᵖ ps))) (sym (ctor-test c l made)) (made-row d (eqb d c) refl k)

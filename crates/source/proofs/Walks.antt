@@ -6,13 +6,14 @@ use Prim.Native.Nat.{ℕ, zero, suc, _+_, _*_, _≤_, _<_, max}
 use native.Mathlib.Nat.{zero-add, add-zero}
 use native.Mathlib.Omega.{arith}
 use lib.ListN.{length, getD, replicate, length-append}
+use lib.Dec.{eqb}
 use borrow.Author.Tests.{eq-eqb, ne-eqb, lt-ltb, le-ltb}
 use Rattle.scope.specs.Types.{Ref, Ctor, Table, fieldsOf, built, ctors, ctorAt, fieldsAt, arity, alts}
 use Rattle.scope.specs.Patterns.{wild, con, Row, Matrix}
 use Rattle.scope.specs.Walks.{Walk, plain, holding, turned, joined, seen, Column, tryEach, unseen, gather}
 use Rattle.scope.specs.Walks as flat
 use Rattle.source.specs.Source as rust
-use Rattle.source.specs.Source.{ValueConstructor, constructor, Patterns, []ᵖ, _∷ᵖ_, _++ᵖ_, len, wildcards, Panic, firstOf, restOf, Entry, containsKey, completeBy, anyAlt, isMissing, concatAlts, valueConstructor, constructorsFor}
+use Rattle.source.specs.Source.{ValueConstructor, complete, incomplete, constructor, Patterns, []ᵖ, _∷ᵖ_, _++ᵖ_, len, wildcards, Panic, firstOf, restOf, Entry, containsKey, completeBy, anyAlt, isMissing, concatAlts, valueConstructor, constructorsFor}
 use Rattle.source.specs.Shows.{Made, Shows, done, wilds, lits, cons, ShowsRows, noRows, also, ShowsWalk}
 use Rattle.laws.proofs.Steps.{useful-fuel, missing-fuel}
 use Rattle.source.proofs.Rows.{Named, len-append, len-wildcards, shows-len, rows-length, rows-append, shows-wilds, wildcard-shows, literal-shows, ctor-shows}
@@ -37,6 +38,10 @@ module _ (table : Table) (t : Ref) where
   try-shows f g h over = refl
   try-shows f g h (next {c = c} e l k) = rw (e, h c l, try-shows f g h k)
 
+-- a column is complete when as many constructors are seen as there are
+complete-when : (e : Entry) (es : List Entry) (b : Bool) → eqb (suc (length es)) (length (e .value)) ≡ b → completeBy (e ∷ es) ≡ cond b (complete (e .value)) incomplete
+complete-when e es b h = ap (λ (x : Bool). cond x (complete (e .value)) incomplete) h
+
 -- two ways to go on that give the same on what shows the same
 record UsefulAgree (table : Table) (again : ℕ → Matrix → Row → Walk Bool) (again′ : rust.Matrix → Patterns → Walk Bool) : Type 0 where
   at : {ts : List Ref} {m : Matrix} {ps : rust.Matrix} {q : Row} {p : Patterns} (n : ℕ) → n ≡ length ts → ShowsRows table ts m ps → Shows table ts q p → again n m q ≡ again′ ps p
@@ -50,9 +55,9 @@ module _ (panic : Panic) (table : Table) (named : Named table) (again : ℕ → 
     wild-useful : {q : Row} {p : Patterns} → Shows table ts q p → {x : Column} {es : List Entry} → ColumnAgrees panic table named t x es
         → flat.usefulWild table again x n m q ≡ rust.usefulWildcard panic again′ (completeBy es) ps p
     wild-useful k bares = deeper .at n e (wildcard-shows table h) k
-    wild-useful {q} {p} k (parts {e = x} {es = es} i l) = rw (i, ne-eqb (suc (length es)) (length (constructorsFor table t)) (λ j. omega arith)) (deeper .at n e (wildcard-shows table h) k)
+    wild-useful {q} {p} k (parts {e = x} {es = es} i l) = rw (complete-when x es false (ne-eqb (suc (length es)) (length (x .value)) (λ j. omega (arith, ap length i)))) (deeper .at n e (wildcard-shows table h) k)
     wild-useful {q} {p} k (fulls {e = x} {es = es} i l) =
-        rw (i, eq-eqb (suc (length es)) (length (constructorsFor table t)) l)
+        rw (complete-when x es true (eq-eqb (suc (length es)) (length (x .value)) (l ∙ sym (ap length i))), i)
         (try-shows table t _ _ (λ c j. ctor-useful c j (shows-wilds table (fieldsAt table t c) ts k)) (from-all table t))
 
   useful-step : {ts : List Ref} {m : Matrix} {ps : rust.Matrix} {q : Row} {p : Patterns} (n : ℕ) → n ≡ length ts → ShowsRows table ts m ps → Shows table ts q p
