@@ -1,4 +1,4 @@
-/* The check of a match block, from C. Link target/staticlib/libgatecheck.a (x86-64 Linux). */
+/* The check of a match block, from C. Link target/library/libgatesorrel.a, which library/run makes (x86-64 Linux). */
 #ifndef GATESORREL_H
 #define GATESORREL_H
 

@@ -5,6 +5,7 @@ use cells::clear;
 ghost use Rattle.block.specs.Check.{Checked};
 
 mod driver;
+pub mod library;
 pub mod print;
 
 // The answer for a file, with the report in the report buffer; the scratch is zero afterwards.

@@ -1,8 +1,8 @@
--- `gatecheck::gatesorrel_check` meets its contract: what `check` answers, told in numbers.
-use Rattle.gatecheck.proofs.Calls.{called}
+-- `block::library::gatesorrel_check` meets its contract: what `check` answers, told in numbers.
+use Rattle.block.proofs.Calls.{called}
 use borrow.Author.Needs.{needs}
-use Rattle.gatecheck.proofs.gatesorrel_check.Statement.{statement}
-use Rattle.gatecheck.proofs.gatesorrel_check.Tie as tie
+use Rattle.block.proofs.library.gatesorrel_check.Statement.{statement}
+use Rattle.block.proofs.library.gatesorrel_check.Tie as tie
 
 returns : tie.Need-returns
 returns c =

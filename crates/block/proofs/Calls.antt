@@ -4,8 +4,8 @@ use mathlib.Core.List.{List}
 use Prim.Native.Nat.{ℕ}
 use Rattle.answers.specs.declared.Answer.{Answer}
 use Rattle.answers.specs.Answer.{said}
 use Rattle.block.specs.Check.{Checked}
-use Rattle.gatecheck.specs.Called.{Called}
+use Rattle.block.specs.Called.{Called}
 
 pub called : (file scratch report : List ℕ) (r : Answer) (report′ scratch′ : List ℕ) (number line long : ℕ) → Checked file scratch report r report′ scratch′ → (number ≡ said r .number) × ((line ≡ said r .line) × (long ≡ said r .length)) → Called file scratch report number line long report′ scratch′
 called file scratch report r report′ scratch′ number line long c t = record {

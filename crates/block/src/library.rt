@@ -1,7 +1,7 @@
-// `check` for programs in C and Rust: the static library.
-use block::check;
+// `check` for programs in C and Rust, which the static library exports.
+use crate::check;
 use numbers::tell;
-ghost use Rattle.gatecheck.specs.Called.{Called};
+ghost use Rattle.block.specs.Called.{Called};
 
 // The answer's number, 0 for a report; its line and the report's length through the last two.
 #[no_mangle]

@@ -1,3 +1,0 @@
--- What the proof of the exported function uses.
-pub mod Calls
-pub mod Once

@@ -1,2 +1,0 @@
--- What the exported function promises.
-pub mod Called
