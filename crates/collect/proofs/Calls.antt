@@ -84,7 +84,7 @@ module _ (bytes nodes left counts ars : List ℕ) where
     into-sought e₂ path pe alts alts₂ depth out oe written found calls v h =
         let o = ap₂ (λ (x : ℕ) (y : Rows). turned (under ars (pathOf path alts depth)) (missingOf bytes counts ars (n - 1 + x) y)) ae (stands .is) in
         sought-same s rows (take rows e ++ (e₂ ++ drop (length e - rows) (drop rows e))) path pe alts alts₂ depth out oe written found calls room v _ _ o
-        (record { kept = stands .kept e₂; keptPath = h .keptPath; keptAlts = h .keptAlts; is = h .is; text = h .text; few = h .few })
+        (record { kept = stands .kept e₂; keptPath = h .keptPath; keptAlts = h .keptAlts; longPath = h .longPath; longAlts = h .longAlts; longOut = h .longOut; is = h .is; text = h .text; few = h .few })
 
   -- `aside`: the same rows in a scratch of 128 cells
   module _ (n key : ℕ) (s : List ℕ) (rows room : ℕ) (r : Held nodes left counts ars n s rows room) (small : room ≤ 64) (z x : List ℕ) (len : length z ≡ 128) (q : x ≡ take rows s ++ drop rows z) where
@@ -110,7 +110,7 @@ module _ (bytes nodes left counts ars : List ℕ) where
         → Sought s rows s path pe alts alts₂ depth out oe written found calls room v (turned (under ars (pathOf path alts depth)) (missingBy bytes counts ars (missingOf bytes counts ars) (n - 1) (matrix nodes left n (take rows s)) key))
     aside-sought e path pe alts alts₂ depth out oe written found calls v h =
         sought-same s rows s path pe alts alts₂ depth out oe written found calls room v _ _ (ap (λ (y : List ℕ). turned (under ars (pathOf path alts depth)) (missingBy bytes counts ars (missingOf bytes counts ars) (n - 1) (matrix nodes left n y) key)) same-rows)
-        (record { kept = refl; keptPath = h .keptPath; keptAlts = h .keptAlts; is = h .is; text = h .text; few = h .few })
+        (record { kept = refl; keptPath = h .keptPath; keptAlts = h .keptAlts; longPath = h .longPath; longAlts = h .longAlts; longOut = h .longOut; is = h .is; text = h .text; few = h .few })
 
   pub short-falls : (n key : ℕ) (s : List ℕ) (rows t : ℕ) → length s < rows + rows
       → 1024 * size (n - 1 + arOf ars key) (rowsBy bytes key (arOf ars key) (matrix nodes left n (take rows s))) + cond (ltb (length s) (rows + rows)) 702 700 ≡ t

@@ -73,32 +73,35 @@ module _ (s : List ℕ) (rows : ℕ) (e path pe alts ae : List ℕ) (depth : ℕ
 
   -- a walk with one step more in the path
   pub sought-step : (x g : ℕ) (o : Walk Rows) → Sought s rows e (set path depth x) pe (set alts depth g) ae (depth + 1) out oe written found calls room r o → Sought s rows e path pe alts ae depth out oe written found calls room r o
-  sought-step x g o h = record { kept = h .kept; keptPath = kept-less path pe depth x (h .keptPath); keptAlts = kept-less alts ae depth g (h .keptAlts); is = h .is; text = h .text; few = h .few }
+  sought-step x g o h = record { kept = h .kept; keptPath = kept-less path pe depth x (h .keptPath); keptAlts = kept-less alts ae depth g (h .keptAlts); longPath = h .longPath ∙ length-set path depth x; longAlts = h .longAlts ∙ length-set alts depth g; longOut = h .longOut; is = h .is; text = h .text; few = h .few }
 
   -- a walk in a call that is entered
   pub sought-enter : (cells : ℕ) (o : Walk Rows) → cells ≤ room → Sought s rows e path pe alts ae depth out oe written found (calls + 1) (room - cells) r o → Sought s rows e path pe alts ae depth out oe written found calls room r (holding cells o)
-  sought-enter cells o l h = record { kept = h .kept; keptPath = h .keptPath; keptAlts = h .keptAlts; is = h .is ∙ enter calls room written found cells o l; text = h .text; few = h .few }
+  sought-enter cells o l h = record { kept = h .kept; keptPath = h .keptPath; keptAlts = h .keptAlts; longPath = h .longPath; longAlts = h .longAlts; longOut = h .longOut; is = h .is ∙ enter calls room written found cells o l; text = h .text; few = h .few }
 
 -- walks that end at once
 module _ (s : List ℕ) (rows : ℕ) (path alts : List ℕ) (depth : ℕ) (out : List ℕ) (written found calls room cells : ℕ) where
   pub sought-cells : (o : Walk Rows) → room < cells → Sought s rows s path path alts alts depth out out written found calls room Over (holding cells o)
-  sought-cells o l = record { kept = refl; keptPath = refl; keptAlts = refl; is = over-cells calls room written found cells o l; text = λ w k c q. clash (cc); few = λ w k c q. clash (cc) }
+  sought-cells o l = record { kept = refl; keptPath = refl; keptAlts = refl; longPath = refl; longAlts = refl; longOut = refl; is = over-cells calls room written found cells o l; text = λ w k c q. clash (cc); few = λ w k c q. clash (cc) }
 
   pub sought-calls : (o : Walk Rows) → 65536 ≤ calls → Sought s rows s path path alts alts depth out out written found calls room Over (holding cells o)
-  sought-calls o l = record { kept = refl; keptPath = refl; keptAlts = refl; is = over-calls calls room written found cells o l; text = λ w k c q. clash (cc); few = λ w k c q. clash (cc) }
+  sought-calls o l = record { kept = refl; keptPath = refl; keptAlts = refl; longPath = refl; longAlts = refl; longOut = refl; is = over-calls calls room written found cells o l; text = λ w k c q. clash (cc); few = λ w k c q. clash (cc) }
 
   pub sought-none : calls ≤ 65536 → written ≤ 4096 → found ≤ written → Sought s rows s path path alts alts depth out out written found calls room (Done written found calls) (plain [])
-  sought-none l k f = record { kept = refl; keptPath = refl; keptAlts = refl; is = none-done calls room written found l k; text = λ w n c q. refl; few = λ w n c q. let x : written ≡ w = cc in let y : found ≡ n = cc in omega arith }
+  sought-none l k f = record { kept = refl; keptPath = refl; keptAlts = refl; longPath = refl; longAlts = refl; longOut = refl; is = none-done calls room written found l k; text = λ w n c q. refl; few = λ w n c q. let x : written ≡ w = cc in let y : found ≡ n = cc in omega arith }
 
   module _ (m : Rows) (fits : cells ≤ room) (lt : calls < 65536) (v : Spelt) (oe : List ℕ) (h : Spread out written found m v oe) (pe : List ℕ) (pq : pe ≡ path) where
     leaf-over : v ≡ spelt.Over → Sought s rows s path pe alts alts depth out oe written found calls room Over (holding cells (plain m))
-    leaf-over q = record { kept = refl; keptPath = ap (take depth) pq; keptAlts = refl; is = over-leaf calls room written found cells m fits lt (sym q ∙ h .is); text = λ w k c z. clash (cc); few = λ w k c z. clash (cc) }
+    leaf-over q = record { kept = refl; keptPath = ap (take depth) pq; keptAlts = refl; longPath = ap length pq; longAlts = refl; longOut = h .long; is = over-leaf calls room written found cells m fits lt (sym q ∙ h .is); text = λ w k c z. clash (cc); few = λ w k c z. clash (cc) }
 
     leaf-done : (n k : ℕ) → v ≡ spelt.Done n k → Sought s rows s path pe alts alts depth out oe written found calls room (Done n k (calls + 1)) (holding cells (plain m))
     leaf-done n k q = record {
       kept = refl;
       keptPath = ap (take depth) pq;
       keptAlts = refl;
+      longPath = ap length pq;
+      longAlts = refl;
+      longOut = h .long;
       is = done-leaf calls room written found cells m fits lt n k (sym q ∙ h .is);
       text = λ w j c z. h .text n k q;
       few = λ w j c z. let x : n ≡ w = cc in let y : k ≡ j = cc in omega (arith, h .few n k q);
@@ -114,7 +117,7 @@ module _ (s : List ℕ) (rows : ℕ) (path alts : List ℕ) (depth : ℕ) (out :
 -- one walk, then another
 module _ (s : List ℕ) (rows : ℕ) (e path pe alts ae : List ℕ) (depth : ℕ) (out oe : List ℕ) (written found calls room : ℕ) (r : Seek) (a b : Walk Rows) (h : Sought s rows e path pe alts ae depth out oe written found calls room r a) where
   pub sought-over : r ≡ Over → Sought s rows e path pe alts ae depth out oe written found calls room Over (joined _++_ a b)
-  sought-over q = record { kept = h .kept; keptPath = h .keptPath; keptAlts = h .keptAlts; is = join-over calls room written found a b (sym q ∙ h .is); text = λ w k c z. clash (cc); few = λ w k c z. clash (cc) }
+  sought-over q = record { kept = h .kept; keptPath = h .keptPath; keptAlts = h .keptAlts; longPath = h .longPath; longAlts = h .longAlts; longOut = h .longOut; is = join-over calls room written found a b (sym q ∙ h .is); text = λ w k c z. clash (cc); few = λ w k c z. clash (cc) }
 
   pub sought-done : (w k c : ℕ) → r ≡ Done w k c → IsDone calls room written found a w k c
   sought-done w k c q = done-is calls room written found a w k c (sym q ∙ h .is)
@@ -124,6 +127,9 @@ module _ (s : List ℕ) (rows : ℕ) (e path pe alts ae : List ℕ) (depth : ℕ
     kept = h₂ .kept ∙ h .kept;
     keptPath = h₂ .keptPath ∙ h .keptPath;
     keptAlts = h₂ .keptAlts ∙ h .keptAlts;
+    longPath = h₂ .longPath ∙ h .longPath;
+    longAlts = h₂ .longAlts ∙ h .longAlts;
+    longOut = h₂ .longOut ∙ h .longOut;
     is = h₂ .is ∙ join-then calls room written found a b w k c (sym q ∙ h .is);
     text = λ w₂ k₂ c₂ z.
         let n : w ≡ written + length (flatten (a .result)) = sought-done w k c q .nodes ∙ ap (λ (x : ℕ). written + x) (sym (flatten-length (a .result))) in

@@ -55,6 +55,9 @@ pub record Sought (s : List ℕ) (rows : ℕ) (e path pathEnd alts altsEnd : Lis
   pub kept : take rows e ≡ take rows s
   pub keptPath : take depth pathEnd ≡ take depth path
   pub keptAlts : take depth altsEnd ≡ take depth alts
+  pub longPath : length pathEnd ≡ length path
+  pub longAlts : length altsEnd ≡ length alts
+  pub longOut : length outEnd ≡ length out
   pub is : r ≡ sought calls room written found o
   pub text : (w k c : ℕ) → r ≡ seek.Done w k c → outEnd ≡ sets out written (flatten (o .result))
   pub few : (w k c : ℕ) → r ≡ seek.Done w k c → k ≤ w

@@ -37,13 +37,14 @@ fn walk(
     left: &[u16],
     rows: &[u16],
     scratch: &mut [u16],
-    verdicts: &mut [u8],
-    out: &mut [u16],
+    verdicts: &mut [u8; 64],
+    out: &mut [u16; 4096],
 ) -> Walks
     requires { ⌜ Sizes (now nodes) (now arities) ⌝ }
     requires { ⌜ Starts (now nodes) (now left) (now counts) (now arities) (now rows) ⌝ }
     requires { ⌜ (length (now rows) ≤ 64) × (16384 ≤ length (now scratch)) × (64 ≤ length (now verdicts)) × (4096 ≤ length (now out)) ⌝ }
     ensures { λ r. ⌜ ((kinds : List ℕ) (b : Block) → Holding (now (bytes .entry)) kinds (now (nodes .entry)) (now (left .entry)) (now (counts .entry)) (now (arities .entry)) (now (rows .entry)) (b .table) (b .subject) (b .rows) → Walked (now (bytes .entry)) b (now (verdicts .exit)) (now (out .exit)) r) ⌝ }
+    ensures { λ _. ⌜ (length (now (verdicts .exit)) ≡ length (now (verdicts .entry))) × (length (now (out .exit)) ≡ length (now (out .entry))) ⌝ }
     ensures { λ _. ⌜ now (scratch .exit) ≡ replicate (length (now (scratch .entry))) 0 ⌝ }
 {
     let reached = judge(bytes, nodes, left, counts, arities, rows, scratch, verdicts);
@@ -51,20 +52,7 @@ fn walk(
         clear(scratch);
         return Walks::Over;
     };
-    let mut path = [0u16; 16384];
-    let mut alts = [0u32; 16384];
-    let found = missing(
-        bytes,
-        nodes,
-        left,
-        counts,
-        arities,
-        rows,
-        scratch,
-        &mut path,
-        &mut alts,
-        out,
-    );
+    let found = missing(bytes, nodes, left, counts, arities, rows, scratch, out);
     match found {
         Seek::Over => Walks::Over,
         Seek::Done {

@@ -10,17 +10,6 @@ ghost use Rattle.matrix.specs.Places.{Sizes, Starts};
 ghost use Rattle.collect.specs.Ready.{sought};
 ghost use Rattle.missing.specs.Missing.{missingRows, outAfter, FindsAll};
 
-// Zero everywhere.
-fn clear_sets(s: &mut [u32])
-    ensures { λ _. ⌜ now (s .exit) ≡ replicate (length (now (s .entry))) 0 ⌝ }
-{
-    let mut i = 0;
-    while i < s.len() {
-        s[i] = 0;
-        i += 1;
-    }
-}
-
 // The rows that are missing from all clauses, whose places `starts` has.
 pub fn missing(
     bytes: &[u8],
@@ -30,22 +19,20 @@ pub fn missing(
     arities: &[u8],
     starts: &[u16],
     s: &mut [u16],
-    path: &mut [u16],
-    alts: &mut [u32],
-    out: &mut [u16],
+    out: &mut [u16; 4096],
 ) -> Seek
     requires { ⌜ Sizes (now nodes) (now arities) ⌝ }
     requires { ⌜ Starts (now nodes) (now left) (now counts) (now arities) (now starts) ⌝ }
-    requires { ⌜ (length (now starts) ≤ 64) × (16384 ≤ length (now s)) × (16384 ≤ length (now path)) × (16384 ≤ length (now alts)) × (4096 ≤ length (now out)) ⌝ }
+    requires { ⌜ (length (now starts) ≤ 64) × (16384 ≤ length (now s)) × (4096 ≤ length (now out)) ⌝ }
     ensures { λ r. ⌜ r ≡ sought 0 16384 0 0 (missingRows (now (bytes .entry)) (now (counts .entry)) (now (arities .entry)) (now (nodes .entry)) (now (starts .entry))) ⌝ }
     ensures { λ r. ⌜ now (out .exit) ≡ outAfter (now (out .entry)) (missingRows (now (bytes .entry)) (now (counts .entry)) (now (arities .entry)) (now (nodes .entry)) (now (starts .entry)) .result) r ⌝ }
     ensures { λ _. ⌜ now (s .exit) ≡ replicate (length (now (s .entry))) 0 ⌝ }
-    ensures { λ _. ⌜ now (path .exit) ≡ replicate (length (now (path .entry))) 0 ⌝ }
-    ensures { λ _. ⌜ now (alts .exit) ≡ replicate (length (now (alts .entry))) 0 ⌝ }
     ensures { λ r. ⌜ FindsAll (now (bytes .entry)) (now (nodes .entry)) (now (left .entry)) (now (counts .entry)) (now (arities .entry)) (now (starts .entry)) (now (out .exit)) r ⌝ }
 {
     let n = starts.len();
     copy(starts, n, s);
+    let mut path = [0u16; 16384];
+    let mut alts = [0u32; 16384];
     let r = collect_missing_patterns(
         bytes,
         nodes,
@@ -55,8 +42,8 @@ pub fn missing(
         1,
         s,
         n,
-        path,
-        alts,
+        &mut path,
+        &mut alts,
         0,
         out,
         0,
@@ -65,21 +52,9 @@ pub fn missing(
         16384,
     );
     clear(s);
-    clear(path);
-    clear_sets(alts);
-    match r {
-        Seek::Over => {
-            clear(out);
-            Seek::Over
-        }
-        Seek::Done {
-            written,
-            rows,
-            calls,
-        } => Seek::Done {
-            written,
-            rows,
-            calls,
-        },
-    }
+    let Seek::Over = r else {
+        return r;
+    };
+    clear(out);
+    r
 }

@@ -6,7 +6,7 @@ use Prim.Native.Nat.{ℕ, _+_, _≤_, _<_}
 use native.Mathlib.Nat.{add-zero}
 use native.Mathlib.Omega.{arith}
 use lib.ListN.{length, length-append}
-use lib.Seq.{sets}
+use lib.Seq.{sets, length-sets}
 use borrow.Author.Tests.{le-leb, lt-leb}
 use Rattle.cells.proofs.Laws.{sets-sets}
 use Rattle.scope.specs.Lists.{flatten}
@@ -78,6 +78,7 @@ pub spread-none : (d : List ℕ) (written rows : ℕ) (m : Rows) → m ≡ [] �
 spread-none d written rows m e l f = subst (λ (x : Rows). Spread d written rows x (Done written rows) d) (sym e)
     (record {
       is = ap₂ Done (sym (add-zero written)) (sym (add-zero rows)) ∙ sym (fitted-in written rows [] (omega arith));
+      long = refl;
       text = λ w k q. refl;
       few = λ w k q. let x : written ≡ w = cc in let y : rows ≡ k = cc in omega arith;
     })
@@ -87,6 +88,7 @@ module _ (d : List ℕ) (written rows : ℕ) (row : List ℕ) (at : ℕ) (e : Li
   pub spread-over : 4096 < at → Spread d written rows (row ∷ []) Over e
   spread-over l = record {
     is = sym (fitted-out written rows (row ∷ []) (omega (arith, p .place)));
+    long = ap length (p .text) ∙ length-sets d written row;
     text = λ w k q. clash (cc);
     few = λ w k q. clash (cc);
   }
@@ -97,6 +99,7 @@ module _ (d : List ℕ) (written rows : ℕ) (row : List ℕ) (at : ℕ) (e : Li
       let c : rows + 1 ≡ rows + length (row ∷ []) = omega arith in
       record {
         is = ap₂ Done n c ∙ sym (fitted-in written rows (row ∷ []) (omega arith));
+        long = ap length (p .text) ∙ length-sets d written row;
         text = λ w k q. p .text ∙ ap (sets d written) (sym (append-nil row));
         few = λ w k q. let x : at ≡ w = cc in let y : rows + 1 ≡ k = cc in omega (arith, p .place);
       }
@@ -106,6 +109,7 @@ module _ (d : List ℕ) (written rows : ℕ) (a b m : Rows) (same : m ≡ a ++ b
   pub spread-stop : r ≡ Over → Spread d written rows m Over e
   spread-stop q = subst (λ (x : Rows). Spread d written rows x Over e) (sym same) (record {
     is = over-first written rows a b (sym q ∙ f .is);
+    long = f .long;
     text = λ w k z. clash (cc);
     few = λ w k z. clash (cc);
   })
@@ -116,6 +120,7 @@ module _ (d : List ℕ) (written rows : ℕ) (a b m : Rows) (same : m ≡ a ++ b
   pub spread-then : (w k : ℕ) → r ≡ Done w k → (r₂ : Spelt) (e₂ : List ℕ) → Spread e w k b r₂ e₂ → Spread d written rows m r₂ e₂
   spread-then w k q r₂ e₂ g = subst (λ (x : Rows). Spread d written rows x r₂ e₂) (sym same) (record {
     is = g .is ∙ fitted-then written rows a b w k (sym q ∙ f .is);
+    long = g .long ∙ f .long;
     text = λ w₂ k₂ z.
         let n : w ≡ written + length (flatten a) = fitted-done written rows a w k (sym q ∙ f .is) .nodes ∙ ap (λ (x : ℕ). written + x) (sym (flatten-length a)) in
         g .text w₂ k₂ z ∙ ap₂ (λ (x : List ℕ) (y : ℕ). sets x y (flatten b)) (f .text w k q) n ∙ sets-sets (flatten a) (flatten b) d written ∙ ap (sets d written) (sym (flatten-append a b));

@@ -28,6 +28,7 @@ fitted written rows m = cond (leb (written + nodesOf m) maxMissing) (spelt.Done 
 -- the answer r of writing the rows m out to d
 pub record Spread (d : List ℕ) (written rows : ℕ) (m : Rows) (r : Spelt) (e : List ℕ) : Type 0 where
   pub is : r ≡ fitted written rows m
+  pub long : length e ≡ length d
   pub text : (w k : ℕ) → r ≡ spelt.Done w k → e ≡ sets d written (flatten m)
   pub few : (w k : ℕ) → r ≡ spelt.Done w k → k ≤ w
 

@@ -12,7 +12,7 @@ ghost use Rattle.paths.specs.Path.{spelt1, spelt, chosen, under, pathOf}
 ghost use Rattle.paths.specs.Spread.{Put, Spread, Spelling};
 
 // n wildcards.
-fn put_wilds(out: &mut [u16], at: usize, n: usize) -> usize
+fn put_wilds(out: &mut [u16; 4096], at: usize, n: usize) -> usize
     requires { ⌜ at + n < 2 ^ 64 ⌝ }
     ensures { λ r. ⌜ Put (now (out .entry)) at (replicate n 0) r (now (out .exit)) ⌝ }
 {
@@ -25,7 +25,7 @@ fn put_wilds(out: &mut [u16], at: usize, n: usize) -> usize
 }
 
 // One step of the path as it is chosen now.
-fn put_step(arities: &[u8], node: u16, set: u32, out: &mut [u16], at: usize) -> usize
+fn put_step(arities: &[u8], node: u16, set: u32, out: &mut [u16; 4096], at: usize) -> usize
     requires { ⌜ at + 65536 < 2 ^ 64 ⌝ }
     ensures { λ r. ⌜ Put (now (out .entry)) at (spelt1 (now (arities .entry)) node set) r (now (out .exit)) ⌝ }
 {
@@ -40,11 +40,11 @@ fn put_step(arities: &[u8], node: u16, set: u32, out: &mut [u16], at: usize) -> 
 // The row that the path says as it is chosen now, in front of n wildcards.
 fn put_row(
     arities: &[u8],
-    path: &[u16],
-    alts: &[u32],
+    path: &[u16; 16384],
+    alts: &[u32; 16384],
     depth: usize,
     n: usize,
-    out: &mut [u16],
+    out: &mut [u16; 4096],
     written: usize,
 ) -> usize
     requires { ⌜ (depth ≤ length (now path)) × (depth ≤ length (now alts)) × (depth ≤ 16384) × (n ≤ 16640) × (written ≤ 4096) ⌝ }
@@ -63,12 +63,12 @@ fn put_row(
 // The rows of every choice for the first k steps, the others as chosen now; the choices of the innermost vary slowest.
 pub fn put_rows(
     arities: &[u8],
-    path: &mut [u16],
-    alts: &[u32],
+    path: &mut [u16; 16384],
+    alts: &[u32; 16384],
     depth: usize,
     k: usize,
     n: usize,
-    out: &mut [u16],
+    out: &mut [u16; 4096],
     written: usize,
     rows: usize,
 ) -> Spelt
@@ -107,12 +107,12 @@ pub fn put_rows(
 // The same for each constructor of step k that is in the set `rest`, from b on, more of them.
 fn choose(
     arities: &[u8],
-    path: &mut [u16],
-    alts: &[u32],
+    path: &mut [u16; 16384],
+    alts: &[u32; 16384],
     depth: usize,
     k: usize,
     n: usize,
-    out: &mut [u16],
+    out: &mut [u16; 4096],
     written: usize,
     rows: usize,
     b: u16,

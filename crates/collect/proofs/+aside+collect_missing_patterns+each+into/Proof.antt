@@ -109,7 +109,7 @@ aside-slice-aggregate-copy t c =
 
 aside-copy-requires : (t : ℕ) → aside-lts.Need-copy-requires (aside-claims t) (aside-at t) aside.Post
 aside-copy-requires t c κs =
-    let h = c .before .before .before .before .before .before .before .before .before .before .pre .1 in
+    let h = c .before .before .before .before .before .before .before .pre .1 in
     (omega (arith, h .0 .space), omega (arith, h .0 .low))
 
 aside-slice-aggregate-into : (t : ℕ) → aside-lts.Need-slice-aggregate-into (aside-claims t) (aside-at t) aside.Post
@@ -118,33 +118,21 @@ aside-slice-aggregate-into t c =
 
 aside-into-requires : (t : ℕ) → aside-lts.Need-into-requires (aside-claims t) (aside-at t) aside.Post
 aside-into-requires t c κs =
-    let a = c .before .before .before .before .before .before .before .before .before .before .before .before .before .before .before .before .args in
-    let h = c .before .before .before .before .before .before .before .before .before .before .before .before .before .before .before .before .pre .1 in
-    (aside-falls (a .bytes .now) (a .nodes .now) (a .left .now) (a .counts .now) (a .arities .now) (a .n) (a .key) (a .s .now) (a .rows) (a .room) (h .0) (h .1 .1 .1) (replicate 128 0) (c .before .before .before .before .before .copy .last .1 .1 .0) refl (c .before .before .before .before .before .copy .ensures) t (c .before .before .before .before .before .before .before .before .before .before .before .before .before .before .before .before .pre .0), (aside-held (a .bytes .now) (a .nodes .now) (a .left .now) (a .counts .now) (a .arities .now) (a .n) (a .key) (a .s .now) (a .rows) (a .room) (h .0) (h .1 .1 .1) (replicate 128 0) (c .before .before .before .before .before .copy .last .1 .1 .0) refl (c .before .before .before .before .before .copy .ensures), (h .1 .0, h .1 .1 .0)))
-
-aside-same-length : (t : ℕ) → aside-lts.Need-same-length (aside-claims t) (aside-at t) aside.Post
-aside-same-length t c =
-    c .before .before .before .before .before .before .before .into .kept .1 .1 .1 .1 .1 .1 .1 .1 .1 .0
-
-aside-same-length-2 : (t : ℕ) → aside-lts.Need-same-length-2 (aside-claims t) (aside-at t) aside.Post
-aside-same-length-2 t c =
-    c .before .before .before .before .before .before .before .into .kept .1 .1 .1 .1 .1 .1 .1 .1 .1 .1 .0
-
-aside-same-length-3 : (t : ℕ) → aside-lts.Need-same-length-3 (aside-claims t) (aside-at t) aside.Post
-aside-same-length-3 t c =
-    c .before .before .before .before .before .before .before .into .kept .1 .1 .1 .1 .1 .1 .1 .1 .1 .1 .1 .1 .0
+    let a = c .before .before .before .before .before .before .before .before .before .before .before .before .before .args in
+    let h = c .before .before .before .before .before .before .before .before .before .before .before .before .before .pre .1 in
+    (aside-falls (a .bytes .now) (a .nodes .now) (a .left .now) (a .counts .now) (a .arities .now) (a .n) (a .key) (a .s .now) (a .rows) (a .room) (h .0) (h .1 .1 .1) (replicate 128 0) (c .before .before .before .before .before .copy .last .1 .1 .0) refl (c .before .before .before .before .before .copy .ensures) t (c .before .before .before .before .before .before .before .before .before .before .before .before .before .pre .0), (aside-held (a .bytes .now) (a .nodes .now) (a .left .now) (a .counts .now) (a .arities .now) (a .n) (a .key) (a .s .now) (a .rows) (a .room) (h .0) (h .1 .1 .1) (replicate 128 0) (c .before .before .before .before .before .copy .last .1 .1 .0) refl (c .before .before .before .before .before .copy .ensures), (h .1 .0, h .1 .1 .0)))
 
 aside-returns : (t : ℕ) → aside-lts.Need-returns (aside-claims t) (aside-at t) aside.Post
 aside-returns t c =
-    let a = c .before .before .before .before .before .before .before .before .before .before .before .before .before .before .before .before .before .before .before .before .before .before .before .before .args in
-    let h = c .before .before .before .before .before .before .before .before .before .before .before .before .before .before .before .before .before .before .before .before .before .before .before .before .pre .1 in
-    let q = c .before .before .before .before .before .before .before .into in
-    aside-sought (a .bytes .now) (a .nodes .now) (a .left .now) (a .counts .now) (a .arities .now) (a .n) (a .key) (a .s .now) (a .rows) (a .room) (h .0) (h .1 .1 .1) (replicate 128 0) (c .before .before .before .before .before .before .before .before .before .before .before .before .before .copy .last .1 .1 .0) refl (c .before .before .before .before .before .before .before .before .before .before .before .before .before .copy .ensures) (q .last .1 .1 .1 .1 .1 .1 .1 .0) (a .path .now) (q .last .1 .1 .1 .1 .1 .1 .1 .1 .1 .0) (a .alts .now) (q .last .1 .1 .1 .1 .1 .1 .1 .1 .1 .1 .0) (a .depth) (a .out .now) (q .last .1 .1 .1 .1 .1 .1 .1 .1 .1 .1 .1 .1 .0) (a .written) (a .found) (a .calls) (q .result) (q .ensures)
+    let a = c .before .before .before .before .before .before .before .before .before .before .before .before .before .before .before .args in
+    let h = c .before .before .before .before .before .before .before .before .before .before .before .before .before .before .before .pre .1 in
+    let q = c .before .into in
+    aside-sought (a .bytes .now) (a .nodes .now) (a .left .now) (a .counts .now) (a .arities .now) (a .n) (a .key) (a .s .now) (a .rows) (a .room) (h .0) (h .1 .1 .1) (replicate 128 0) (c .before .before .before .before .before .before .before .copy .last .1 .1 .0) refl (c .before .before .before .before .before .before .before .copy .ensures) (q .last .1 .1 .1 .1 .1 .1 .1 .0) (a .path .now) (q .last .1 .1 .1 .1 .1 .1 .1 .1 .1 .0) (a .alts .now) (q .last .1 .1 .1 .1 .1 .1 .1 .1 .1 .1 .0) (a .depth) (a .out .now) (q .last .1 .1 .1 .1 .1 .1 .1 .1 .1 .1 .1 .1 .0) (a .written) (a .found) (a .calls) (q .result) (q .ensures)
 
 collect-missing-patterns-mul-cells : (t : ℕ) → collect-missing-patterns-lts.Need-mul-cells (collect-missing-patterns-claims t) (collect-missing-patterns-at t) collect-missing-patterns.Post
 collect-missing-patterns-mul-cells t c =
-    let a = c .before .before .before .before .before .before .before .before .before .args in
-    let h = c .before .before .before .before .before .before .before .before .before .pre .1 in
+    let a = c .before .before .before .before .before .before .args in
+    let h = c .before .before .before .before .before .before .pre .1 in
     record { fits = lt-of-le-of-lt (mul-le-mul {n₁ = a .rows} {m₁ = a .n} {n₂ = 64} {m₂ = 16640} (omega (arith, h .0 .low)) (omega (arith, h .0 .wide))) (lit< tt) }
 
 collect-missing-patterns-over-requires : (t : ℕ) → collect-missing-patterns-lts.Need-over-requires (collect-missing-patterns-claims t) (collect-missing-patterns-at t) collect-missing-patterns.Post
@@ -153,72 +141,60 @@ collect-missing-patterns-over-requires t c κs =
 
 collect-missing-patterns-returns : (t : ℕ) → collect-missing-patterns-lts.Need-returns (collect-missing-patterns-claims t) (collect-missing-patterns-at t) collect-missing-patterns.Post
 collect-missing-patterns-returns t c =
-    let a = c .before .before .before .before .before .before .before .before .before .before .before .args in
-    let h = c .before .before .before .before .before .before .before .before .before .before .before .pre .1 in
-    let low : (h : ℕ) → arOf (a .arities .now) h ≤ 255 = arity-byte (a .arities .now) (λ i. omega (arith, c .before .before .before .before .before .before .shared-slice-known5 .given i)) in
+    let a = c .before .before .before .before .before .before .before .before .args in
+    let h = c .before .before .before .before .before .before .before .before .pre .1 in
+    let low : (h : ℕ) → arOf (a .arities .now) h ≤ 255 = arity-byte (a .arities .now) (λ i. omega (arith, c .before .before .before .shared-slice-known5 .given i)) in
     is-past (a .bytes .now) (a .nodes .now) (a .left .now) (a .counts .now) (a .arities .now) low (a .n) (a .s .now) (a .rows) (a .room) (h .0) (a .path .now) (a .alts .now) (a .depth) (a .written) (a .found) (h .1 .0) (a .out .now) (a .calls) (c .before .over .result) (c .before .over .ensures) (c .if1 .taken)
 
 collect-missing-patterns-put-rows-requires : (t : ℕ) → collect-missing-patterns-lts.Need-put-rows-requires (collect-missing-patterns-claims t) (collect-missing-patterns-at t) collect-missing-patterns.Post
 collect-missing-patterns-put-rows-requires t c κs =
-    let a = c .before .before .before .before .before .before .before .before .before .before .before .before .before .before .before .args in
-    let h = c .before .before .before .before .before .before .before .before .before .before .before .before .before .before .before .pre .1 in
+    let a = c .before .before .before .before .before .before .before .before .before .before .before .before .args in
+    let h = c .before .before .before .before .before .before .before .before .before .before .before .before .pre .1 in
     trail-spelling (a .path .now) (a .alts .now) (a .depth) (a .room) (a .written) (a .found) (h .1 .0) (a .n) (h .0 .wide) (h .1 .1)
 
 collect-missing-patterns-counted-requires : (t : ℕ) → collect-missing-patterns-lts.Need-counted-requires (collect-missing-patterns-claims t) (collect-missing-patterns-at t) collect-missing-patterns.Post
 collect-missing-patterns-counted-requires t c κs =
-    let a = c .before .before .before .before .before .before .before .before .before .before .before .before .before .before .before .before .before .before .before .before .args in
-    let g = entered (a .calls) (a .rows * a .n) (a .room) (c .before .before .before .before .before .before .before .before .before .before .over .result) (c .before .before .before .before .before .before .before .before .before .before .over .ensures) (c .before .before .before .before .before .before .before .before .before .if1 .left) in
+    let a = c .before .before .before .before .before .before .before .before .before .before .before .before .before .args in
+    let g = entered (a .calls) (a .rows * a .n) (a .room) (c .before .before .before .before .before .before .over .result) (c .before .before .before .before .before .before .over .ensures) (c .before .before .before .before .before .if1 .left) in
     g .few
-
-collect-missing-patterns-same-length : (t : ℕ) → collect-missing-patterns-lts.Need-same-length (collect-missing-patterns-claims t) (collect-missing-patterns-at t) collect-missing-patterns.Post
-collect-missing-patterns-same-length t c =
-    c .before .before .before .before .before .put-rows .kept .1 .0
-
-collect-missing-patterns-same-length-2 : (t : ℕ) → collect-missing-patterns-lts.Need-same-length-2 (collect-missing-patterns-claims t) (collect-missing-patterns-at t) collect-missing-patterns.Post
-collect-missing-patterns-same-length-2 t c =
-    refl
-
-collect-missing-patterns-same-length-3 : (t : ℕ) → collect-missing-patterns-lts.Need-same-length-3 (collect-missing-patterns-claims t) (collect-missing-patterns-at t) collect-missing-patterns.Post
-collect-missing-patterns-same-length-3 t c =
-    c .before .before .before .before .before .put-rows .kept .1 .1 .1 .1 .1 .1 .0
 
 collect-missing-patterns-returns-2 : (t : ℕ) → collect-missing-patterns-lts.Need-returns-2 (collect-missing-patterns-claims t) (collect-missing-patterns-at t) collect-missing-patterns.Post
 collect-missing-patterns-returns-2 t c =
-    let a = c .before .before .before .before .before .before .before .before .before .before .before .before .before .before .before .before .before .before .before .before .before .args in
-    let h = c .before .before .before .before .before .before .before .before .before .before .before .before .before .before .before .before .before .before .before .before .before .pre .1 in
-    let low : (h : ℕ) → arOf (a .arities .now) h ≤ 255 = arity-byte (a .arities .now) (λ i. omega (arith, c .before .before .before .before .before .before .before .before .before .before .before .before .before .before .before .before .shared-slice-known5 .given i)) in
-    let g = entered (a .calls) (a .rows * a .n) (a .room) (c .before .before .before .before .before .before .before .before .before .before .before .over .result) (c .before .before .before .before .before .before .before .before .before .before .before .over .ensures) (c .before .before .before .before .before .before .before .before .before .before .if1 .left) in
-    is-leaf (a .bytes .now) (a .nodes .now) (a .left .now) (a .counts .now) (a .arities .now) low (a .n) (a .s .now) (a .rows) (a .room) (h .0) (a .path .now) (a .alts .now) (a .depth) (a .written) (a .found) (h .1 .0) (a .out .now) (a .calls) (g .fits) (g .few) (c .before .before .before .before .before .before .before .before .before .if2 .taken) (c .before .before .before .before .before .put-rows .result) (c .before .before .before .before .before .put-rows .last .1 .1 .1 .1 .1 .1 .0) (leaf-spread (a .arities .now) (a .path .now) (a .alts .now) (a .depth) (a .n) (a .out .now) (a .written) (a .found) (c .before .before .before .before .before .put-rows .result) (c .before .before .before .before .before .put-rows .last .1 .1 .1 .1 .1 .1 .0) (c .before .before .before .before .before .put-rows .ensures .0)) (c .before .before .before .before .before .put-rows .last .1 .0) (c .before .before .before .before .before .put-rows .ensures .1) (c .counted .result) (c .counted .ensures)
+    let a = c .before .before .before .before .before .before .before .before .before .before .before .before .before .before .args in
+    let h = c .before .before .before .before .before .before .before .before .before .before .before .before .before .before .pre .1 in
+    let low : (h : ℕ) → arOf (a .arities .now) h ≤ 255 = arity-byte (a .arities .now) (λ i. omega (arith, c .before .before .before .before .before .before .before .before .before .shared-slice-known5 .given i)) in
+    let g = entered (a .calls) (a .rows * a .n) (a .room) (c .before .before .before .before .before .before .before .over .result) (c .before .before .before .before .before .before .before .over .ensures) (c .before .before .before .before .before .before .if1 .left) in
+    is-leaf (a .bytes .now) (a .nodes .now) (a .left .now) (a .counts .now) (a .arities .now) low (a .n) (a .s .now) (a .rows) (a .room) (h .0) (a .path .now) (a .alts .now) (a .depth) (a .written) (a .found) (h .1 .0) (a .out .now) (a .calls) (g .fits) (g .few) (c .before .before .before .before .before .if2 .taken) (c .before .put-rows .result) (c .before .put-rows .last .1 .1 .1 .1 .1 .1 .0) (leaf-spread (a .arities .now) (a .path .now) (a .alts .now) (a .depth) (a .n) (a .out .now) (a .written) (a .found) (c .before .put-rows .result) (c .before .put-rows .last .1 .1 .1 .1 .1 .1 .0) (c .before .put-rows .ensures .0)) (c .before .put-rows .last .1 .0) (c .before .put-rows .ensures .1) (c .counted .result) (c .counted .ensures)
 
 collect-missing-patterns-counted-requires-2 : (t : ℕ) → collect-missing-patterns-lts.Need-counted-requires-2 (collect-missing-patterns-claims t) (collect-missing-patterns-at t) collect-missing-patterns.Post
 collect-missing-patterns-counted-requires-2 t c κs =
-    let a = c .before .before .before .before .before .before .before .before .before .before .before .before .before .args in
+    let a = c .before .before .before .before .before .before .before .before .before .before .args in
     let g = entered (a .calls) (a .rows * a .n) (a .room) (c .before .before .before .over .result) (c .before .before .before .over .ensures) (c .before .before .if1 .left) in
     g .few
 
 collect-missing-patterns-returns-3 : (t : ℕ) → collect-missing-patterns-lts.Need-returns-3 (collect-missing-patterns-claims t) (collect-missing-patterns-at t) collect-missing-patterns.Post
 collect-missing-patterns-returns-3 t c =
-    let a = c .before .before .before .before .before .before .before .before .before .before .before .before .before .before .args in
-    let h = c .before .before .before .before .before .before .before .before .before .before .before .before .before .before .pre .1 in
-    let low : (h : ℕ) → arOf (a .arities .now) h ≤ 255 = arity-byte (a .arities .now) (λ i. omega (arith, c .before .before .before .before .before .before .before .before .before .shared-slice-known5 .given i)) in
+    let a = c .before .before .before .before .before .before .before .before .before .before .before .args in
+    let h = c .before .before .before .before .before .before .before .before .before .before .before .pre .1 in
+    let low : (h : ℕ) → arOf (a .arities .now) h ≤ 255 = arity-byte (a .arities .now) (λ i. omega (arith, c .before .before .before .before .before .before .shared-slice-known5 .given i)) in
     let g = entered (a .calls) (a .rows * a .n) (a .room) (c .before .before .before .before .over .result) (c .before .before .before .before .over .ensures) (c .before .before .before .if1 .left) in
     is-zero (a .bytes .now) (a .nodes .now) (a .left .now) (a .counts .now) (a .arities .now) low (a .n) (a .s .now) (a .rows) (a .room) (h .0) (a .path .now) (a .alts .now) (a .depth) (a .written) (a .found) (h .1 .0) (a .out .now) (a .calls) (g .fits) (g .few) (omega (arith, c .before .before .if2 .left)) (c .before .if3 .taken) (c .counted2 .result) (c .counted2 .ensures)
 
 collect-missing-patterns-slice-reshare-prefix-collect-ctors : (t : ℕ) → collect-missing-patterns-lts.Need-slice-reshare-prefix-collect-ctors (collect-missing-patterns-claims t) (collect-missing-patterns-at t) collect-missing-patterns.Post
 collect-missing-patterns-slice-reshare-prefix-collect-ctors t c =
-    let h = c .before .before .before .before .before .before .before .before .before .before .before .before .before .pre .1 in
+    let h = c .before .before .before .before .before .before .before .before .before .before .pre .1 in
     h .0 .fits
 
 collect-missing-patterns-slice-aggregate-collect-ctors : (t : ℕ) → collect-missing-patterns-lts.Need-slice-aggregate-collect-ctors (collect-missing-patterns-claims t) (collect-missing-patterns-at t) collect-missing-patterns.Post
 collect-missing-patterns-slice-aggregate-collect-ctors t c =
-    let a = c .before .before .before .before .before .before .before .before .before .before .before .before .before .before .args in
-    let h = c .before .before .before .before .before .before .before .before .before .before .before .before .before .before .pre .1 in
+    let a = c .before .before .before .before .before .before .before .before .before .before .before .args in
+    let h = c .before .before .before .before .before .before .before .before .before .before .before .pre .1 in
     sym (length-take-le (a .rows) (a .s .now) (h .0 .fits))
 
 collect-missing-patterns-collect-ctors-requires : (t : ℕ) → collect-missing-patterns-lts.Need-collect-ctors-requires (collect-missing-patterns-claims t) (collect-missing-patterns-at t) collect-missing-patterns.Post
 collect-missing-patterns-collect-ctors-requires t c κs =
-    let a = c .before .before .before .before .before .before .before .before .before .before .before .before .before .before .args in
-    let h = c .before .before .before .before .before .before .before .before .before .before .before .before .before .before .pre .1 in
+    let a = c .before .before .before .before .before .before .before .before .before .before .before .args in
+    let h = c .before .before .before .before .before .before .before .before .before .before .before .pre .1 in
     let some : 0 < a .rows = omega (arith, c .before .before .if2 .left) in
     let pos : 0 < a .n = omega (arith, c .before .if3 .left) in
     few-places (a .nodes .now) (a .left .now) (a .counts .now) (a .arities .now) (a .n) (take (a .rows) (a .s .now)) (h .0 .places) pos
@@ -229,27 +205,27 @@ collect-missing-patterns-enum-known-column t c =
 
 collect-missing-patterns-add-each : (t : ℕ) → collect-missing-patterns-lts.Need-add-each (collect-missing-patterns-claims t) (collect-missing-patterns-at t) collect-missing-patterns.Post
 collect-missing-patterns-add-each t c =
-    let a = c .before .before .before .before .before .before .before .before .before .before .before .before .before .before .before .before .before .before .before .before .before .before .args in
+    let a = c .before .before .before .before .before .before .before .before .before .before .before .before .before .before .before .before .before .before .before .args in
     let g = entered (a .calls) (a .rows * a .n) (a .room) (c .before .before .before .before .before .before .before .before .before .before .before .before .over .result) (c .before .before .before .before .before .before .before .before .before .before .before .before .over .ensures) (c .before .before .before .before .before .before .before .before .before .before .before .if1 .left) in
     omega (arith, g .few)
 
 collect-missing-patterns-sub-each : (t : ℕ) → collect-missing-patterns-lts.Need-sub-each (collect-missing-patterns-claims t) (collect-missing-patterns-at t) collect-missing-patterns.Post
 collect-missing-patterns-sub-each t c =
-    let a = c .before .before .before .before .before .before .before .before .before .before .before .before .before .before .before .before .before .before .before .before .before .before .args in
+    let a = c .before .before .before .before .before .before .before .before .before .before .before .before .before .before .before .before .before .before .before .args in
     let g = entered (a .calls) (a .rows * a .n) (a .room) (c .before .before .before .before .before .before .before .before .before .before .before .before .over .result) (c .before .before .before .before .before .before .before .before .before .before .before .before .over .ensures) (c .before .before .before .before .before .before .before .before .before .before .before .if1 .left) in
     g .fits
 
 collect-missing-patterns-each-requires : (t : ℕ) → collect-missing-patterns-lts.Need-each-requires (collect-missing-patterns-claims t) (collect-missing-patterns-at t) collect-missing-patterns.Post
 collect-missing-patterns-each-requires t c κs =
-    let a = c .before .before .before .before .before .before .before .before .before .before .before .before .before .before .before .before .before .before .before .before .before .before .args in
-    let h = c .before .before .before .before .before .before .before .before .before .before .before .before .before .before .before .before .before .before .before .before .before .before .pre .1 in
-    let low : (h : ℕ) → arOf (a .arities .now) h ≤ 255 = arity-byte (a .arities .now) (λ i. omega (arith, c .before .before .before .before .before .before .before .before .before .before .before .before .before .before .before .before .before .shared-slice-known5 .given i)) in
+    let a = c .before .before .before .before .before .before .before .before .before .before .before .before .before .before .before .before .before .before .before .args in
+    let h = c .before .before .before .before .before .before .before .before .before .before .before .before .before .before .before .before .before .before .before .pre .1 in
+    let low : (h : ℕ) → arOf (a .arities .now) h ≤ 255 = arity-byte (a .arities .now) (λ i. omega (arith, c .before .before .before .before .before .before .before .before .before .before .before .before .before .before .shared-slice-known5 .given i)) in
     let some : 0 < a .rows = omega (arith, c .before .before .before .before .before .before .before .before .before .before .if2 .left) in
     let pos : 0 < a .n = omega (arith, c .before .before .before .before .before .before .before .before .before .if3 .left) in
     let g = entered (a .calls) (a .rows * a .n) (a .room) (c .before .before .before .before .before .before .before .before .before .before .before .before .over .result) (c .before .before .before .before .before .before .before .before .before .before .before .before .over .ensures) (c .before .before .before .before .before .before .before .before .before .before .before .if1 .left) in
     let w = complete-seen (a .counts .now) (map (headAt (a .nodes .now) (a .left .now) (a .n)) (take (a .rows) (a .s .now))) (c .before .before .before .before .before .before .before .collect-ctors .result) (c .before .before .before .before .before .column .given .0 .0) (c .before .before .before .before .before .column .given .0 .1 .0) (c .before .before .before .before .before .column .given .1) (c .before .before .before .before .before .before .before .collect-ctors .ensures) in
-    let k : c .before .before .before .before .before .column .given .0 .1 .0 ≤ 255 = omega (arith, w .many, c .before .before .before .before .before .before .before .before .before .before .before .before .before .before .before .before .before .before .shared-slice-known4 .given ((c .before .before .before .before .before .column .given .0 .0 - 1) / 32)) in
-    (omega (arith, c .before .before .before .before .before .before .before .before .before .before .before .before .before .before .before .before .before .before .before .before .before .before .pre .0), (seen-held (a .bytes .now) (a .nodes .now) (a .left .now) (a .counts .now) (a .arities .now) low (a .n) (a .s .now) (a .rows) (a .room) (h .0) (a .path .now) (a .alts .now) (a .depth) (a .written) (a .found) (h .1 .0) (a .out .now) (a .calls) (g .fits) (g .few) some pos, (seen-trail (a .bytes .now) (a .nodes .now) (a .left .now) (a .counts .now) (a .arities .now) low (a .n) (a .s .now) (a .rows) (a .room) (h .0) (a .path .now) (a .alts .now) (a .depth) (a .written) (a .found) (h .1 .0) (a .out .now) (a .calls) (g .fits) (g .few) some pos, (w .listed, (omega (arith, g .few), w .positive, omega (arith, w .small), k)))))
+    let k : c .before .before .before .before .before .column .given .0 .1 .0 ≤ 255 = omega (arith, w .many, c .before .before .before .before .before .before .before .before .before .before .before .before .before .before .before .shared-slice-known4 .given ((c .before .before .before .before .before .column .given .0 .0 - 1) / 32)) in
+    (omega (arith, c .before .before .before .before .before .before .before .before .before .before .before .before .before .before .before .before .before .before .before .pre .0), (seen-held (a .bytes .now) (a .nodes .now) (a .left .now) (a .counts .now) (a .arities .now) low (a .n) (a .s .now) (a .rows) (a .room) (h .0) (a .path .now) (a .alts .now) (a .depth) (a .written) (a .found) (h .1 .0) (a .out .now) (a .calls) (g .fits) (g .few) some pos, (seen-trail (a .bytes .now) (a .nodes .now) (a .left .now) (a .counts .now) (a .arities .now) low (a .n) (a .s .now) (a .rows) (a .room) (h .0) (a .path .now) (a .alts .now) (a .depth) (a .written) (a .found) (h .1 .0) (a .out .now) (a .calls) (g .fits) (g .few) some pos, (w .listed, (omega (arith, g .few), w .positive, omega (arith, w .small), k)))))
 
 collect-missing-patterns-enum-known-column-2 : (t : ℕ) → collect-missing-patterns-lts.Need-enum-known-column-2 (collect-missing-patterns-claims t) (collect-missing-patterns-at t) collect-missing-patterns.Post
 collect-missing-patterns-enum-known-column-2 t c =
@@ -257,15 +233,15 @@ collect-missing-patterns-enum-known-column-2 t c =
 
 collect-missing-patterns-mul-path : (t : ℕ) → collect-missing-patterns-lts.Need-mul-path (collect-missing-patterns-claims t) (collect-missing-patterns-at t) collect-missing-patterns.Post
 collect-missing-patterns-mul-path t c =
-    let h = c .before .before .before .before .before .before .before .before .before .before .before .before .before .before .before .before .before .before .pre .1 in
+    let h = c .before .before .before .before .before .before .before .before .before .before .before .before .before .before .before .pre .1 in
     omega (arith, h .1 .0 .deep)
 
-collect-missing-patterns-slice-write-path : (t : ℕ) → collect-missing-patterns-lts.Need-slice-write-path (collect-missing-patterns-claims t) (collect-missing-patterns-at t) collect-missing-patterns.Post
-collect-missing-patterns-slice-write-path t c =
-    let a = c .before .before .before .before .before .before .before .before .before .before .before .before .before .before .before .before .before .before .args in
+collect-missing-patterns-element-write-path : (t : ℕ) → collect-missing-patterns-lts.Need-element-write-path (collect-missing-patterns-claims t) (collect-missing-patterns-at t) collect-missing-patterns.Post
+collect-missing-patterns-element-write-path t c =
+    let a = c .before .before .before .before .before .before .before .before .before .before .before .before .before .before .before .args in
     let g = entered (a .calls) (a .rows * a .n) (a .room) (c .before .before .before .before .before .before .before .before .over .result) (c .before .before .before .before .before .before .before .before .over .ensures) (c .before .before .before .before .before .before .before .if1 .left) in
-    let h = c .before .before .before .before .before .before .before .before .before .before .before .before .before .before .before .before .before .before .pre .1 in
-    let low : (h : ℕ) → arOf (a .arities .now) h ≤ 255 = arity-byte (a .arities .now) (λ i. omega (arith, c .before .before .before .before .before .before .before .before .before .before .before .before .before .shared-slice-known5 .given i)) in
+    let h = c .before .before .before .before .before .before .before .before .before .before .before .before .before .before .before .pre .1 in
+    let low : (h : ℕ) → arOf (a .arities .now) h ≤ 255 = arity-byte (a .arities .now) (λ i. omega (arith, c .before .before .before .before .before .before .before .before .before .before .shared-slice-known5 .given i)) in
     let some : 0 < a .rows = omega (arith, c .before .before .before .before .before .before .if2 .left) in
     let pos : 0 < a .n = omega (arith, c .before .before .before .before .before .if3 .left) in
     let st = seen-trail (a .bytes .now) (a .nodes .now) (a .left .now) (a .counts .now) (a .arities .now) low (a .n) (a .s .now) (a .rows) (a .room) (h .0) (a .path .now) (a .alts .now) (a .depth) (a .written) (a .found) (h .1 .0) (a .out .now) (a .calls) (g .fits) (g .few) some pos in
@@ -273,15 +249,15 @@ collect-missing-patterns-slice-write-path t c =
 
 collect-missing-patterns-mul-alts : (t : ℕ) → collect-missing-patterns-lts.Need-mul-alts (collect-missing-patterns-claims t) (collect-missing-patterns-at t) collect-missing-patterns.Post
 collect-missing-patterns-mul-alts t c =
-    let h = c .before .before .before .before .before .before .before .before .before .before .before .before .before .before .before .before .before .before .pre .1 in
+    let h = c .before .before .before .before .before .before .before .before .before .before .before .before .before .before .before .pre .1 in
     omega (arith, h .1 .0 .deep)
 
-collect-missing-patterns-slice-write-alts : (t : ℕ) → collect-missing-patterns-lts.Need-slice-write-alts (collect-missing-patterns-claims t) (collect-missing-patterns-at t) collect-missing-patterns.Post
-collect-missing-patterns-slice-write-alts t c =
-    let a = c .before .before .before .before .before .before .before .before .before .before .before .before .before .before .before .before .before .before .args in
+collect-missing-patterns-element-write-alts : (t : ℕ) → collect-missing-patterns-lts.Need-element-write-alts (collect-missing-patterns-claims t) (collect-missing-patterns-at t) collect-missing-patterns.Post
+collect-missing-patterns-element-write-alts t c =
+    let a = c .before .before .before .before .before .before .before .before .before .before .before .before .before .before .before .args in
     let g = entered (a .calls) (a .rows * a .n) (a .room) (c .before .before .before .before .before .before .before .before .over .result) (c .before .before .before .before .before .before .before .before .over .ensures) (c .before .before .before .before .before .before .before .if1 .left) in
-    let h = c .before .before .before .before .before .before .before .before .before .before .before .before .before .before .before .before .before .before .pre .1 in
-    let low : (h : ℕ) → arOf (a .arities .now) h ≤ 255 = arity-byte (a .arities .now) (λ i. omega (arith, c .before .before .before .before .before .before .before .before .before .before .before .before .before .shared-slice-known5 .given i)) in
+    let h = c .before .before .before .before .before .before .before .before .before .before .before .before .before .before .before .pre .1 in
+    let low : (h : ℕ) → arOf (a .arities .now) h ≤ 255 = arity-byte (a .arities .now) (λ i. omega (arith, c .before .before .before .before .before .before .before .before .before .before .shared-slice-known5 .given i)) in
     let some : 0 < a .rows = omega (arith, c .before .before .before .before .before .before .if2 .left) in
     let pos : 0 < a .n = omega (arith, c .before .before .before .before .before .if3 .left) in
     let st = seen-trail (a .bytes .now) (a .nodes .now) (a .left .now) (a .counts .now) (a .arities .now) low (a .n) (a .s .now) (a .rows) (a .room) (h .0) (a .path .now) (a .alts .now) (a .depth) (a .written) (a .found) (h .1 .0) (a .out .now) (a .calls) (g .fits) (g .few) some pos in
@@ -289,126 +265,94 @@ collect-missing-patterns-slice-write-alts t c =
 
 collect-missing-patterns-add-into : (t : ℕ) → collect-missing-patterns-lts.Need-add-into (collect-missing-patterns-claims t) (collect-missing-patterns-at t) collect-missing-patterns.Post
 collect-missing-patterns-add-into t c =
-    let h = c .before .before .before .before .before .before .before .before .before .before .before .before .before .before .before .before .before .before .before .before .before .pre .1 in
+    let h = c .before .before .before .before .before .before .before .before .before .before .before .before .before .before .before .before .before .before .pre .1 in
     omega (arith, h .1 .0 .deep)
 
 collect-missing-patterns-add-into-2 : (t : ℕ) → collect-missing-patterns-lts.Need-add-into-2 (collect-missing-patterns-claims t) (collect-missing-patterns-at t) collect-missing-patterns.Post
 collect-missing-patterns-add-into-2 t c =
-    let a = c .before .before .before .before .before .before .before .before .before .before .before .before .before .before .before .before .before .before .before .before .before .before .args in
+    let a = c .before .before .before .before .before .before .before .before .before .before .before .before .before .before .before .before .before .before .before .args in
     let g = entered (a .calls) (a .rows * a .n) (a .room) (c .before .before .before .before .before .before .before .before .before .before .before .before .over .result) (c .before .before .before .before .before .before .before .before .before .before .before .before .over .ensures) (c .before .before .before .before .before .before .before .before .before .before .before .if1 .left) in
     omega (arith, g .few)
 
 collect-missing-patterns-sub-into : (t : ℕ) → collect-missing-patterns-lts.Need-sub-into (collect-missing-patterns-claims t) (collect-missing-patterns-at t) collect-missing-patterns.Post
 collect-missing-patterns-sub-into t c =
-    let a = c .before .before .before .before .before .before .before .before .before .before .before .before .before .before .before .before .before .before .before .before .before .before .args in
+    let a = c .before .before .before .before .before .before .before .before .before .before .before .before .before .before .before .before .before .before .before .args in
     let g = entered (a .calls) (a .rows * a .n) (a .room) (c .before .before .before .before .before .before .before .before .before .before .before .before .over .result) (c .before .before .before .before .before .before .before .before .before .before .before .before .over .ensures) (c .before .before .before .before .before .before .before .before .before .before .before .if1 .left) in
     g .fits
 
 collect-missing-patterns-into-requires : (t : ℕ) → collect-missing-patterns-lts.Need-into-requires (collect-missing-patterns-claims t) (collect-missing-patterns-at t) collect-missing-patterns.Post
 collect-missing-patterns-into-requires t c κs =
-    let a = c .before .before .before .before .before .before .before .before .before .before .before .before .before .before .before .before .before .before .before .before .before .before .args in
+    let a = c .before .before .before .before .before .before .before .before .before .before .before .before .before .before .before .before .before .before .before .args in
     let g = entered (a .calls) (a .rows * a .n) (a .room) (c .before .before .before .before .before .before .before .before .before .before .before .before .over .result) (c .before .before .before .before .before .before .before .before .before .before .before .before .over .ensures) (c .before .before .before .before .before .before .before .before .before .before .before .if1 .left) in
-    let h = c .before .before .before .before .before .before .before .before .before .before .before .before .before .before .before .before .before .before .before .before .before .before .pre .1 in
-    let low : (h : ℕ) → arOf (a .arities .now) h ≤ 255 = arity-byte (a .arities .now) (λ i. omega (arith, c .before .before .before .before .before .before .before .before .before .before .before .before .before .before .before .before .before .shared-slice-known5 .given i)) in
+    let h = c .before .before .before .before .before .before .before .before .before .before .before .before .before .before .before .before .before .before .before .pre .1 in
+    let low : (h : ℕ) → arOf (a .arities .now) h ≤ 255 = arity-byte (a .arities .now) (λ i. omega (arith, c .before .before .before .before .before .before .before .before .before .before .before .before .before .before .shared-slice-known5 .given i)) in
     let some : 0 < a .rows = omega (arith, c .before .before .before .before .before .before .before .before .before .before .if2 .left) in
     let pos : 0 < a .n = omega (arith, c .before .before .before .before .before .before .before .before .before .if3 .left) in
-    (open-falls (a .bytes .now) (a .nodes .now) (a .left .now) (a .counts .now) (a .arities .now) low (a .n) (a .s .now) (a .rows) (a .room) (h .0) (a .path .now) (a .alts .now) (a .depth) (a .written) (a .found) (h .1 .0) (a .out .now) (a .calls) (g .fits) (g .few) some pos (c .before .before .before .before .before .before .before .collect-ctors .result) (c .before .before .before .before .before .before .before .collect-ctors .ensures) (c .before .before .before .before .before .column2 .given .0 .0) (c .before .before .before .before .before .column2 .given .0 .1 .0) (c .before .before .before .before .before .column2 .given .1) t (c .before .before .before .before .before .before .before .before .before .before .before .before .before .before .before .before .before .before .before .before .before .before .pre .0), (seen-held (a .bytes .now) (a .nodes .now) (a .left .now) (a .counts .now) (a .arities .now) low (a .n) (a .s .now) (a .rows) (a .room) (h .0) (a .path .now) (a .alts .now) (a .depth) (a .written) (a .found) (h .1 .0) (a .out .now) (a .calls) (g .fits) (g .few) some pos, (trail-next (a .path .now) (a .alts .now) (a .depth) (a .room - a .rows * a .n) (a .written) (a .found) (seen-trail (a .bytes .now) (a .nodes .now) (a .left .now) (a .counts .now) (a .arities .now) low (a .n) (a .s .now) (a .rows) (a .room) (h .0) (a .path .now) (a .alts .now) (a .depth) (a .written) (a .found) (h .1 .0) (a .out .now) (a .calls) (g .fits) (g .few) some pos) (c .before .before .before .before .before .column2 .given .0 .0) (c .before .before .before .before .before .column2 .given .0 .1 .0) (open-node (a .bytes .now) (a .nodes .now) (a .left .now) (a .counts .now) (a .arities .now) low (a .n) (a .s .now) (a .rows) (a .room) (h .0) (a .path .now) (a .alts .now) (a .depth) (a .written) (a .found) (h .1 .0) (a .out .now) (a .calls) (g .fits) (g .few) some pos (c .before .before .before .before .before .before .before .collect-ctors .result) (c .before .before .before .before .before .before .before .collect-ctors .ensures) (c .before .before .before .before .before .column2 .given .0 .0) (c .before .before .before .before .before .column2 .given .0 .1 .0) (c .before .before .before .before .before .column2 .given .1)), omega arith)))
-
-collect-missing-patterns-same-length-4 : (t : ℕ) → collect-missing-patterns-lts.Need-same-length-4 (collect-missing-patterns-claims t) (collect-missing-patterns-at t) collect-missing-patterns.Post
-collect-missing-patterns-same-length-4 t c =
-    c .before .before .before .before .before .before .before .before .each .kept .1 .1 .1 .1 .1 .1 .1 .1 .0
-
-collect-missing-patterns-same-length-5 : (t : ℕ) → collect-missing-patterns-lts.Need-same-length-5 (collect-missing-patterns-claims t) (collect-missing-patterns-at t) collect-missing-patterns.Post
-collect-missing-patterns-same-length-5 t c =
-    c .before .before .before .before .before .before .before .before .each .kept .1 .1 .1 .1 .1 .1 .1 .1 .1 .1 .0
-
-collect-missing-patterns-same-length-6 : (t : ℕ) → collect-missing-patterns-lts.Need-same-length-6 (collect-missing-patterns-claims t) (collect-missing-patterns-at t) collect-missing-patterns.Post
-collect-missing-patterns-same-length-6 t c =
-    c .before .before .before .before .before .before .before .before .each .kept .1 .1 .1 .1 .1 .1 .1 .1 .1 .1 .1 .0
-
-collect-missing-patterns-same-length-7 : (t : ℕ) → collect-missing-patterns-lts.Need-same-length-7 (collect-missing-patterns-claims t) (collect-missing-patterns-at t) collect-missing-patterns.Post
-collect-missing-patterns-same-length-7 t c =
-    c .before .before .before .before .before .before .before .before .each .kept .1 .1 .1 .1 .1 .1 .1 .1 .1 .1 .1 .1 .1 .0
+    (open-falls (a .bytes .now) (a .nodes .now) (a .left .now) (a .counts .now) (a .arities .now) low (a .n) (a .s .now) (a .rows) (a .room) (h .0) (a .path .now) (a .alts .now) (a .depth) (a .written) (a .found) (h .1 .0) (a .out .now) (a .calls) (g .fits) (g .few) some pos (c .before .before .before .before .before .before .before .collect-ctors .result) (c .before .before .before .before .before .before .before .collect-ctors .ensures) (c .before .before .before .before .before .column2 .given .0 .0) (c .before .before .before .before .before .column2 .given .0 .1 .0) (c .before .before .before .before .before .column2 .given .1) t (c .before .before .before .before .before .before .before .before .before .before .before .before .before .before .before .before .before .before .before .pre .0), (seen-held (a .bytes .now) (a .nodes .now) (a .left .now) (a .counts .now) (a .arities .now) low (a .n) (a .s .now) (a .rows) (a .room) (h .0) (a .path .now) (a .alts .now) (a .depth) (a .written) (a .found) (h .1 .0) (a .out .now) (a .calls) (g .fits) (g .few) some pos, (trail-next (a .path .now) (a .alts .now) (a .depth) (a .room - a .rows * a .n) (a .written) (a .found) (seen-trail (a .bytes .now) (a .nodes .now) (a .left .now) (a .counts .now) (a .arities .now) low (a .n) (a .s .now) (a .rows) (a .room) (h .0) (a .path .now) (a .alts .now) (a .depth) (a .written) (a .found) (h .1 .0) (a .out .now) (a .calls) (g .fits) (g .few) some pos) (c .before .before .before .before .before .column2 .given .0 .0) (c .before .before .before .before .before .column2 .given .0 .1 .0) (open-node (a .bytes .now) (a .nodes .now) (a .left .now) (a .counts .now) (a .arities .now) low (a .n) (a .s .now) (a .rows) (a .room) (h .0) (a .path .now) (a .alts .now) (a .depth) (a .written) (a .found) (h .1 .0) (a .out .now) (a .calls) (g .fits) (g .few) some pos (c .before .before .before .before .before .before .before .collect-ctors .result) (c .before .before .before .before .before .before .before .collect-ctors .ensures) (c .before .before .before .before .before .column2 .given .0 .0) (c .before .before .before .before .before .column2 .given .0 .1 .0) (c .before .before .before .before .before .column2 .given .1)), omega arith)))
 
 collect-missing-patterns-returns-4 : (t : ℕ) → collect-missing-patterns-lts.Need-returns-4 (collect-missing-patterns-claims t) (collect-missing-patterns-at t) collect-missing-patterns.Post
 collect-missing-patterns-returns-4 t c =
-    let a = c .before .before .before .before .before .before .before .before .before .before .before .before .before .before .before .before .before .before .before .before .before .before .before .before .before .before .before .before .before .before .before .args in
-    let g = entered (a .calls) (a .rows * a .n) (a .room) (c .before .before .before .before .before .before .before .before .before .before .before .before .before .before .before .before .before .before .before .before .before .over .result) (c .before .before .before .before .before .before .before .before .before .before .before .before .before .before .before .before .before .before .before .before .before .over .ensures) (c .before .before .before .before .before .before .before .before .before .before .before .before .before .before .before .before .before .before .before .before .if1 .left) in
-    let h = c .before .before .before .before .before .before .before .before .before .before .before .before .before .before .before .before .before .before .before .before .before .before .before .before .before .before .before .before .before .before .before .pre .1 in
-    let low : (h : ℕ) → arOf (a .arities .now) h ≤ 255 = arity-byte (a .arities .now) (λ i. omega (arith, c .before .before .before .before .before .before .before .before .before .before .before .before .before .before .before .before .before .before .before .before .before .before .before .before .before .before .shared-slice-known5 .given i)) in
-    let some : 0 < a .rows = omega (arith, c .before .before .before .before .before .before .before .before .before .before .before .before .before .before .before .before .before .before .before .if2 .left) in
-    let pos : 0 < a .n = omega (arith, c .before .before .before .before .before .before .before .before .before .before .before .before .before .before .before .before .before .before .if3 .left) in
-    let q = c .before .before .before .before .before .before .before .before .each in
-    is-full (a .bytes .now) (a .nodes .now) (a .left .now) (a .counts .now) (a .arities .now) low (a .n) (a .s .now) (a .rows) (a .room) (h .0) (a .path .now) (a .alts .now) (a .depth) (a .written) (a .found) (h .1 .0) (a .out .now) (a .calls) (g .fits) (g .few) some pos (c .before .before .before .before .before .before .before .before .before .before .before .before .before .before .before .before .collect-ctors .result) (c .before .before .before .before .before .before .before .before .before .before .before .before .before .before .before .before .collect-ctors .ensures) (c .before .before .before .before .before .before .before .before .before .before .before .before .before .before .column .given .0 .0) (c .before .before .before .before .before .before .before .before .before .before .before .before .before .before .column .given .0 .1 .0) (c .before .before .before .before .before .before .before .before .before .before .before .before .before .before .column .given .1) (q .last .1 .1 .1 .1 .1 .1 .1 .1 .0) (q .last .1 .1 .1 .1 .1 .1 .1 .1 .1 .1 .0) (q .last .1 .1 .1 .1 .1 .1 .1 .1 .1 .1 .1 .0) (q .last .1 .1 .1 .1 .1 .1 .1 .1 .1 .1 .1 .1 .1 .0) (q .result) (q .ensures)
-
-collect-missing-patterns-same-length-8 : (t : ℕ) → collect-missing-patterns-lts.Need-same-length-8 (collect-missing-patterns-claims t) (collect-missing-patterns-at t) collect-missing-patterns.Post
-collect-missing-patterns-same-length-8 t c =
-    c .before .before .before .before .before .before .before .before .into .kept .1 .1 .1 .1 .1 .1 .1 .0
-
-collect-missing-patterns-same-length-9 : (t : ℕ) → collect-missing-patterns-lts.Need-same-length-9 (collect-missing-patterns-claims t) (collect-missing-patterns-at t) collect-missing-patterns.Post
-collect-missing-patterns-same-length-9 t c =
-    c .before .before .before .before .before .before .before .before .into .kept .1 .1 .1 .1 .1 .1 .1 .1 .1 .0 ∙ length-set (c .before .before .before .before .before .before .before .before .before .before .before .before .before .before .before .before .before .before .before .before .before .before .before .before .before .before .before .before .before .before .before .args .path .now) (c .before .before .before .before .before .before .before .before .before .before .before .before .before .before .before .before .before .before .before .before .before .before .before .before .before .before .before .before .before .before .before .args .depth) (c .before .before .before .before .before .before .before .before .before .before .before .before .before .before .column2 .given .0 .0)
-
-collect-missing-patterns-same-length-10 : (t : ℕ) → collect-missing-patterns-lts.Need-same-length-10 (collect-missing-patterns-claims t) (collect-missing-patterns-at t) collect-missing-patterns.Post
-collect-missing-patterns-same-length-10 t c =
-    c .before .before .before .before .before .before .before .before .into .kept .1 .1 .1 .1 .1 .1 .1 .1 .1 .1 .0 ∙ length-set (c .before .before .before .before .before .before .before .before .before .before .before .before .before .before .before .before .before .before .before .before .before .before .before .before .before .before .before .before .before .before .before .args .alts .now) (c .before .before .before .before .before .before .before .before .before .before .before .before .before .before .before .before .before .before .before .before .before .before .before .before .before .before .before .before .before .before .before .args .depth) (c .before .before .before .before .before .before .before .before .before .before .before .before .before .before .column2 .given .0 .1 .0)
-
-collect-missing-patterns-same-length-11 : (t : ℕ) → collect-missing-patterns-lts.Need-same-length-11 (collect-missing-patterns-claims t) (collect-missing-patterns-at t) collect-missing-patterns.Post
-collect-missing-patterns-same-length-11 t c =
-    c .before .before .before .before .before .before .before .before .into .kept .1 .1 .1 .1 .1 .1 .1 .1 .1 .1 .1 .1 .0
+    let a = c .before .before .before .before .before .before .before .before .before .before .before .before .before .before .before .before .before .before .before .before .before .before .args in
+    let g = entered (a .calls) (a .rows * a .n) (a .room) (c .before .before .before .before .before .before .before .before .before .before .before .before .before .before .before .over .result) (c .before .before .before .before .before .before .before .before .before .before .before .before .before .before .before .over .ensures) (c .before .before .before .before .before .before .before .before .before .before .before .before .before .before .if1 .left) in
+    let h = c .before .before .before .before .before .before .before .before .before .before .before .before .before .before .before .before .before .before .before .before .before .before .pre .1 in
+    let low : (h : ℕ) → arOf (a .arities .now) h ≤ 255 = arity-byte (a .arities .now) (λ i. omega (arith, c .before .before .before .before .before .before .before .before .before .before .before .before .before .before .before .before .before .shared-slice-known5 .given i)) in
+    let some : 0 < a .rows = omega (arith, c .before .before .before .before .before .before .before .before .before .before .before .before .before .if2 .left) in
+    let pos : 0 < a .n = omega (arith, c .before .before .before .before .before .before .before .before .before .before .before .before .if3 .left) in
+    let q = c .before .before .each in
+    is-full (a .bytes .now) (a .nodes .now) (a .left .now) (a .counts .now) (a .arities .now) low (a .n) (a .s .now) (a .rows) (a .room) (h .0) (a .path .now) (a .alts .now) (a .depth) (a .written) (a .found) (h .1 .0) (a .out .now) (a .calls) (g .fits) (g .few) some pos (c .before .before .before .before .before .before .before .before .before .before .collect-ctors .result) (c .before .before .before .before .before .before .before .before .before .before .collect-ctors .ensures) (c .before .before .before .before .before .before .before .before .column .given .0 .0) (c .before .before .before .before .before .before .before .before .column .given .0 .1 .0) (c .before .before .before .before .before .before .before .before .column .given .1) (q .last .1 .1 .1 .1 .1 .1 .1 .1 .0) (q .last .1 .1 .1 .1 .1 .1 .1 .1 .1 .1 .0) (q .last .1 .1 .1 .1 .1 .1 .1 .1 .1 .1 .1 .0) (q .last .1 .1 .1 .1 .1 .1 .1 .1 .1 .1 .1 .1 .1 .0) (q .result) (q .ensures)
 
 collect-missing-patterns-returns-5 : (t : ℕ) → collect-missing-patterns-lts.Need-returns-5 (collect-missing-patterns-claims t) (collect-missing-patterns-at t) collect-missing-patterns.Post
 collect-missing-patterns-returns-5 t c =
-    let a = c .before .before .before .before .before .before .before .before .before .before .before .before .before .before .before .before .before .before .before .before .before .before .before .before .before .before .before .before .before .before .before .args in
-    let g = entered (a .calls) (a .rows * a .n) (a .room) (c .before .before .before .before .before .before .before .before .before .before .before .before .before .before .before .before .before .before .before .before .before .over .result) (c .before .before .before .before .before .before .before .before .before .before .before .before .before .before .before .before .before .before .before .before .before .over .ensures) (c .before .before .before .before .before .before .before .before .before .before .before .before .before .before .before .before .before .before .before .before .if1 .left) in
-    let h = c .before .before .before .before .before .before .before .before .before .before .before .before .before .before .before .before .before .before .before .before .before .before .before .before .before .before .before .before .before .before .before .pre .1 in
-    let low : (h : ℕ) → arOf (a .arities .now) h ≤ 255 = arity-byte (a .arities .now) (λ i. omega (arith, c .before .before .before .before .before .before .before .before .before .before .before .before .before .before .before .before .before .before .before .before .before .before .before .before .before .before .shared-slice-known5 .given i)) in
-    let some : 0 < a .rows = omega (arith, c .before .before .before .before .before .before .before .before .before .before .before .before .before .before .before .before .before .before .before .if2 .left) in
-    let pos : 0 < a .n = omega (arith, c .before .before .before .before .before .before .before .before .before .before .before .before .before .before .before .before .before .before .if3 .left) in
-    let q = c .before .before .before .before .before .before .before .before .into in
-    is-open (a .bytes .now) (a .nodes .now) (a .left .now) (a .counts .now) (a .arities .now) low (a .n) (a .s .now) (a .rows) (a .room) (h .0) (a .path .now) (a .alts .now) (a .depth) (a .written) (a .found) (h .1 .0) (a .out .now) (a .calls) (g .fits) (g .few) some pos (c .before .before .before .before .before .before .before .before .before .before .before .before .before .before .before .before .collect-ctors .result) (c .before .before .before .before .before .before .before .before .before .before .before .before .before .before .before .before .collect-ctors .ensures) (c .before .before .before .before .before .before .before .before .before .before .before .before .before .before .column2 .given .0 .0) (c .before .before .before .before .before .before .before .before .before .before .before .before .before .before .column2 .given .0 .1 .0) (c .before .before .before .before .before .before .before .before .before .before .before .before .before .before .column2 .given .1) (q .last .1 .1 .1 .1 .1 .1 .1 .0) (q .last .1 .1 .1 .1 .1 .1 .1 .1 .1 .0) (q .last .1 .1 .1 .1 .1 .1 .1 .1 .1 .1 .0) (q .last .1 .1 .1 .1 .1 .1 .1 .1 .1 .1 .1 .1 .0) (q .result) (q .ensures)
+    let a = c .before .before .before .before .before .before .before .before .before .before .before .before .before .before .before .before .before .before .before .before .before .before .args in
+    let g = entered (a .calls) (a .rows * a .n) (a .room) (c .before .before .before .before .before .before .before .before .before .before .before .before .before .before .before .over .result) (c .before .before .before .before .before .before .before .before .before .before .before .before .before .before .before .over .ensures) (c .before .before .before .before .before .before .before .before .before .before .before .before .before .before .if1 .left) in
+    let h = c .before .before .before .before .before .before .before .before .before .before .before .before .before .before .before .before .before .before .before .before .before .before .pre .1 in
+    let low : (h : ℕ) → arOf (a .arities .now) h ≤ 255 = arity-byte (a .arities .now) (λ i. omega (arith, c .before .before .before .before .before .before .before .before .before .before .before .before .before .before .before .before .before .shared-slice-known5 .given i)) in
+    let some : 0 < a .rows = omega (arith, c .before .before .before .before .before .before .before .before .before .before .before .before .before .if2 .left) in
+    let pos : 0 < a .n = omega (arith, c .before .before .before .before .before .before .before .before .before .before .before .before .if3 .left) in
+    let q = c .before .before .into in
+    is-open (a .bytes .now) (a .nodes .now) (a .left .now) (a .counts .now) (a .arities .now) low (a .n) (a .s .now) (a .rows) (a .room) (h .0) (a .path .now) (a .alts .now) (a .depth) (a .written) (a .found) (h .1 .0) (a .out .now) (a .calls) (g .fits) (g .few) some pos (c .before .before .before .before .before .before .before .before .before .before .collect-ctors .result) (c .before .before .before .before .before .before .before .before .before .before .collect-ctors .ensures) (c .before .before .before .before .before .before .before .before .column2 .given .0 .0) (c .before .before .before .before .before .before .before .before .column2 .given .0 .1 .0) (c .before .before .before .before .before .before .before .before .column2 .given .1) (q .last .1 .1 .1 .1 .1 .1 .1 .0) (q .last .1 .1 .1 .1 .1 .1 .1 .1 .1 .0) (q .last .1 .1 .1 .1 .1 .1 .1 .1 .1 .1 .0) (q .last .1 .1 .1 .1 .1 .1 .1 .1 .1 .1 .1 .1 .0) (q .result) (q .ensures)
 
 each-returns :
     (t : ℕ) →
     each-lts.Need-returns (each-claims t) (each-at t) each.Post
 each-returns t c =
-    let a = c .before .before .before .before .before .before .before .before .before .before .args in
-    let h = c .before .before .before .before .before .before .before .before .before .before .pre .1 in
-    let low : (h : ℕ) → arOf (a .arities .now) h ≤ 255 = arity-byte (a .arities .now) (λ i. omega (arith, c .before .before .before .before .before .shared-slice-known5 .given i)) in
+    let a = c .before .before .before .before .before .before .before .args in
+    let h = c .before .before .before .before .before .before .before .pre .1 in
+    let low : (h : ℕ) → arOf (a .arities .now) h ≤ 255 = arity-byte (a .arities .now) (λ i. omega (arith, c .before .before .shared-slice-known5 .given i)) in
     each-none (a .bytes .now) (a .nodes .now) (a .left .now) (a .counts .now) (a .arities .now) low (a .n) (a .key) (a .more) (a .s .now) (a .rows) (a .room) (h .0) (a .path .now) (a .alts .now) (a .depth) (a .written) (a .found) (h .1 .0) (c .if1 .taken) (a .out .now) (a .calls) (h .1 .1 .1 .0)
 
 each-mul-path : (t : ℕ) → each-lts.Need-mul-path (each-claims t) (each-at t) each.Post
 each-mul-path t c =
-    let h = c .before .before .before .before .before .before .before .before .before .before .pre .1 in
+    let h = c .before .before .before .before .before .before .before .pre .1 in
     omega (arith, h .1 .0 .deep)
 
-each-slice-write-path : (t : ℕ) → each-lts.Need-slice-write-path (each-claims t) (each-at t) each.Post
-each-slice-write-path t c =
-    let h = c .before .before .before .before .before .before .before .before .before .before .pre .1 in
+each-element-write-path : (t : ℕ) → each-lts.Need-element-write-path (each-claims t) (each-at t) each.Post
+each-element-write-path t c =
+    let h = c .before .before .before .before .before .before .before .pre .1 in
     omega (arith, h .1 .0 .deep, h .1 .0 .longPath)
 
 each-mul-alts : (t : ℕ) → each-lts.Need-mul-alts (each-claims t) (each-at t) each.Post
 each-mul-alts t c =
-    let h = c .before .before .before .before .before .before .before .before .before .before .pre .1 in
+    let h = c .before .before .before .before .before .before .before .pre .1 in
     omega (arith, h .1 .0 .deep)
 
-each-slice-write-alts : (t : ℕ) → each-lts.Need-slice-write-alts (each-claims t) (each-at t) each.Post
-each-slice-write-alts t c =
-    let h = c .before .before .before .before .before .before .before .before .before .before .pre .1 in
+each-element-write-alts : (t : ℕ) → each-lts.Need-element-write-alts (each-claims t) (each-at t) each.Post
+each-element-write-alts t c =
+    let h = c .before .before .before .before .before .before .before .pre .1 in
     omega (arith, h .1 .0 .deep, h .1 .0 .longAlts)
 
 each-add-into : (t : ℕ) → each-lts.Need-add-into (each-claims t) (each-at t) each.Post
 each-add-into t c =
-    let h = c .before .before .before .before .before .before .before .before .before .before .before .before .before .pre .1 in
+    let h = c .before .before .before .before .before .before .before .before .before .before .pre .1 in
     omega (arith, h .1 .0 .deep)
 
 each-into-requires : (t : ℕ) → each-lts.Need-into-requires (each-claims t) (each-at t) each.Post
 each-into-requires t c κs =
-    let a = c .before .before .before .before .before .before .before .before .before .before .before .before .before .before .args in
-    let h = c .before .before .before .before .before .before .before .before .before .before .before .before .before .before .pre .1 in
-    let low : (h : ℕ) → arOf (a .arities .now) h ≤ 255 = arity-byte (a .arities .now) (λ i. omega (arith, c .before .before .before .before .before .before .before .before .before .shared-slice-known5 .given i)) in
+    let a = c .before .before .before .before .before .before .before .before .before .before .before .args in
+    let h = c .before .before .before .before .before .before .before .before .before .before .before .pre .1 in
+    let low : (h : ℕ) → arOf (a .arities .now) h ≤ 255 = arity-byte (a .arities .now) (λ i. omega (arith, c .before .before .before .before .before .before .shared-slice-known5 .given i)) in
     let p : 0 < a .more = omega (arith, c .before .before .before .before .if1 .left) in
-    (each-into-falls (a .bytes .now) (a .nodes .now) (a .left .now) (a .counts .now) (a .arities .now) low (a .n) (a .key) (a .more) (a .s .now) (a .rows) (a .room) (h .0) (a .path .now) (a .alts .now) (a .depth) (a .written) (a .found) (h .1 .0) t (h .1 .1 .0) p (h .1 .1 .1 .1) (c .before .before .before .before .before .before .before .before .before .before .before .before .before .before .pre .0), (h .0, (trail-next (a .path .now) (a .alts .now) (a .depth) (a .room) (a .written) (a .found) (h .1 .0) (a .key) 0 (omega (arith, h .1 .1 .1 .2)), omega arith)))
+    (each-into-falls (a .bytes .now) (a .nodes .now) (a .left .now) (a .counts .now) (a .arities .now) low (a .n) (a .key) (a .more) (a .s .now) (a .rows) (a .room) (h .0) (a .path .now) (a .alts .now) (a .depth) (a .written) (a .found) (h .1 .0) t (h .1 .1 .0) p (h .1 .1 .1 .1) (c .before .before .before .before .before .before .before .before .before .before .before .pre .0), (h .0, (trail-next (a .path .now) (a .alts .now) (a .depth) (a .room) (a .written) (a .found) (h .1 .0) (a .key) 0 (omega (arith, h .1 .1 .1 .2)), omega arith)))
 
 each-enum-told : (t : ℕ) → each-lts.Need-enum-told (each-claims t) (each-at t) each.Post
 each-enum-told t c =
@@ -420,120 +364,72 @@ each-enum-known-r t c =
 
 each-add-each : (t : ℕ) → each-lts.Need-add-each (each-claims t) (each-at t) each.Post
 each-add-each t c =
-    let a = c .before .before .before .before .before .before .before .before .before .before .before .before .before .before .before .before .before .before .before .before .before .before .before .before .before .before .args in
-    let h = c .before .before .before .before .before .before .before .before .before .before .before .before .before .before .before .before .before .before .before .before .before .before .before .before .before .before .pre .1 in
-    let p : 0 < a .more = omega (arith, c .before .before .before .before .before .before .before .before .before .before .before .before .before .before .before .before .if1 .left) in
+    let a = c .before .before .before .before .before .before .before .before .before .before .before .before .before .before .before .before .before .args in
+    let h = c .before .before .before .before .before .before .before .before .before .before .before .before .before .before .before .before .before .pre .1 in
+    let p : 0 < a .more = omega (arith, c .before .before .before .before .before .before .before .before .before .before .if1 .left) in
     omega (arith, h .1 .1 .1 .2)
 
 each-sub-each : (t : ℕ) → each-lts.Need-sub-each (each-claims t) (each-at t) each.Post
 each-sub-each t c =
-    let a = c .before .before .before .before .before .before .before .before .before .before .before .before .before .before .before .before .before .before .before .before .before .before .before .before .before .before .args in
-    let p : 0 < a .more = omega (arith, c .before .before .before .before .before .before .before .before .before .before .before .before .before .before .before .before .if1 .left) in
+    let a = c .before .before .before .before .before .before .before .before .before .before .before .before .before .before .before .before .before .args in
+    let p : 0 < a .more = omega (arith, c .before .before .before .before .before .before .before .before .before .before .if1 .left) in
     p
 
 each-each-requires : (t : ℕ) → each-lts.Need-each-requires (each-claims t) (each-at t) each.Post
 each-each-requires t c κs =
-    let a = c .before .before .before .before .before .before .before .before .before .before .before .before .before .before .before .before .before .before .before .before .before .before .before .before .before .before .before .before .before .before .args in
-    let h = c .before .before .before .before .before .before .before .before .before .before .before .before .before .before .before .before .before .before .before .before .before .before .before .before .before .before .before .before .before .before .pre .1 in
-    let low : (h : ℕ) → arOf (a .arities .now) h ≤ 255 = arity-byte (a .arities .now) (λ i. omega (arith, c .before .before .before .before .before .before .before .before .before .before .before .before .before .before .before .before .before .before .before .before .before .before .before .before .before .shared-slice-known5 .given i)) in
-    let p : 0 < a .more = omega (arith, c .before .before .before .before .before .before .before .before .before .before .before .before .before .before .before .before .before .before .before .before .if1 .left) in
-    let f = each-fit (a .bytes .now) (a .nodes .now) (a .left .now) (a .counts .now) (a .arities .now) low (a .n) (a .key) (a .more) (a .s .now) (a .rows) (a .room) (h .0) (a .path .now) (a .alts .now) (a .depth) (a .written) (a .found) (h .1 .0) p (a .out .now) (a .calls) (c .before .before .before .before .before .before .before .before .before .before .before .before .before .before .before .into .last .1 .1 .1 .1 .1 .1 .1 .0) (c .before .before .before .before .before .before .before .before .before .before .before .before .before .before .before .into .last .1 .1 .1 .1 .1 .1 .1 .1 .1 .0) (c .before .before .before .before .before .before .before .before .before .before .before .before .before .before .before .into .last .1 .1 .1 .1 .1 .1 .1 .1 .1 .1 .0) (c .before .before .before .before .before .before .before .before .before .before .before .before .before .before .before .into .last .1 .1 .1 .1 .1 .1 .1 .1 .1 .1 .1 .1 .0) (c .before .before .before .before .before .before .before .before .before .before .before .before .before .before .before .into .result) (c .before .before .before .before .before .before .before .before .before .before .before .before .before .before .before .into .ensures) (c .before .before .before .before .before .r .given .0 .0) (c .before .before .before .before .before .r .given .0 .1 .0) (c .before .before .before .before .before .r .given .0 .1 .1 .0) (c .before .before .before .before .before .r .given .1) in
-    let k = c .before .before .before .before .before .before .before .before .before .before .before .before .before .before .before .into .ensures .kept in
-    let e = c .before .before .before .before .before .before .before .before .before .before .before .before .before .before .before .into .last .1 .1 .1 .1 .1 .1 .1 .0 in (
-      each-falls (a .bytes .now) (a .nodes .now) (a .left .now) (a .counts .now) (a .arities .now) low (a .n) (a .key) (a .more) (a .s .now) (a .rows) (a .room) (h .0) (a .path .now) (a .alts .now) (a .depth) (a .written) (a .found) (h .1 .0) t e k p (c .before .before .before .before .before .before .before .before .before .before .before .before .before .before .before .before .before .before .before .before .before .before .before .before .before .before .before .before .before .before .pre .0),
+    let a = c .before .before .before .before .before .before .before .before .before .before .before .before .before .before .before .before .before .before .before .before .before .args in
+    let h = c .before .before .before .before .before .before .before .before .before .before .before .before .before .before .before .before .before .before .before .before .before .pre .1 in
+    let low : (h : ℕ) → arOf (a .arities .now) h ≤ 255 = arity-byte (a .arities .now) (λ i. omega (arith, c .before .before .before .before .before .before .before .before .before .before .before .before .before .before .before .before .shared-slice-known5 .given i)) in
+    let p : 0 < a .more = omega (arith, c .before .before .before .before .before .before .before .before .before .before .before .before .before .before .if1 .left) in
+    let f = each-fit (a .bytes .now) (a .nodes .now) (a .left .now) (a .counts .now) (a .arities .now) low (a .n) (a .key) (a .more) (a .s .now) (a .rows) (a .room) (h .0) (a .path .now) (a .alts .now) (a .depth) (a .written) (a .found) (h .1 .0) p (a .out .now) (a .calls) (c .before .before .before .before .before .before .before .before .before .into .last .1 .1 .1 .1 .1 .1 .1 .0) (c .before .before .before .before .before .before .before .before .before .into .last .1 .1 .1 .1 .1 .1 .1 .1 .1 .0) (c .before .before .before .before .before .before .before .before .before .into .last .1 .1 .1 .1 .1 .1 .1 .1 .1 .1 .0) (c .before .before .before .before .before .before .before .before .before .into .last .1 .1 .1 .1 .1 .1 .1 .1 .1 .1 .1 .1 .0) (c .before .before .before .before .before .before .before .before .before .into .result) (c .before .before .before .before .before .before .before .before .before .into .ensures) (c .before .before .before .before .before .r .given .0 .0) (c .before .before .before .before .before .r .given .0 .1 .0) (c .before .before .before .before .before .r .given .0 .1 .1 .0) (c .before .before .before .before .before .r .given .1) in
+    let k = c .before .before .before .before .before .before .before .before .before .into .ensures .kept in
+    let e = c .before .before .before .before .before .before .before .before .before .into .last .1 .1 .1 .1 .1 .1 .1 .0 in (
+      each-falls (a .bytes .now) (a .nodes .now) (a .left .now) (a .counts .now) (a .arities .now) low (a .n) (a .key) (a .more) (a .s .now) (a .rows) (a .room) (h .0) (a .path .now) (a .alts .now) (a .depth) (a .written) (a .found) (h .1 .0) t e k p (c .before .before .before .before .before .before .before .before .before .before .before .before .before .before .before .before .before .before .before .before .before .pre .0),
       (
-        held-kept (a .bytes .now) (a .nodes .now) (a .left .now) (a .counts .now) (a .arities .now) (a .n) (a .s .now) (a .rows) (a .room) (h .0) e k (c .before .before .before .before .before .before .before .before .before .before .before .before .before .before .before .into .kept .1 .1 .1 .1 .1 .1 .1 .0),
+        held-kept (a .bytes .now) (a .nodes .now) (a .left .now) (a .counts .now) (a .arities .now) (a .n) (a .s .now) (a .rows) (a .room) (h .0) e k (c .before .before .before .before .before .before .before .before .before .into .kept .1 .1 .1 .1 .1 .1 .1 .0),
         (
-          trail-kept (a .path .now) (a .alts .now) (a .depth) (a .room + 1) (a .written) (a .found) (h .1 .0) (c .before .before .before .before .before .before .before .before .before .before .before .before .before .before .before .into .last .1 .1 .1 .1 .1 .1 .1 .1 .1 .0) (c .before .before .before .before .before .before .before .before .before .before .before .before .before .before .before .into .last .1 .1 .1 .1 .1 .1 .1 .1 .1 .1 .0) (each-path (a .bytes .now) (a .nodes .now) (a .left .now) (a .counts .now) (a .arities .now) low (a .n) (a .key) (a .more) (a .s .now) (a .rows) (a .room) (h .0) (a .path .now) (a .alts .now) (a .depth) (a .written) (a .found) (h .1 .0) p (a .out .now) (a .calls) (c .before .before .before .before .before .before .before .before .before .before .before .before .before .before .before .into .last .1 .1 .1 .1 .1 .1 .1 .0) (c .before .before .before .before .before .before .before .before .before .before .before .before .before .before .before .into .last .1 .1 .1 .1 .1 .1 .1 .1 .1 .0) (c .before .before .before .before .before .before .before .before .before .before .before .before .before .before .before .into .last .1 .1 .1 .1 .1 .1 .1 .1 .1 .1 .0) (c .before .before .before .before .before .before .before .before .before .before .before .before .before .before .before .into .last .1 .1 .1 .1 .1 .1 .1 .1 .1 .1 .1 .1 .0) (c .before .before .before .before .before .before .before .before .before .before .before .before .before .before .before .into .result) (c .before .before .before .before .before .before .before .before .before .before .before .before .before .before .before .into .ensures)) (c .before .before .before .before .before .before .before .before .before .before .before .before .before .before .before .into .kept .1 .1 .1 .1 .1 .1 .1 .1 .1 .0 ∙ length-set (a .path .now) (a .depth) (a .key)) (c .before .before .before .before .before .before .before .before .before .before .before .before .before .before .before .into .kept .1 .1 .1 .1 .1 .1 .1 .1 .1 .1 .0 ∙ length-set (a .alts .now) (a .depth) 0) (c .before .before .before .before .before .r .given .0 .0) (c .before .before .before .before .before .r .given .0 .1 .0) (f .0) (f .1),
+          trail-kept (a .path .now) (a .alts .now) (a .depth) (a .room + 1) (a .written) (a .found) (h .1 .0) (c .before .before .before .before .before .before .before .before .before .into .last .1 .1 .1 .1 .1 .1 .1 .1 .1 .0) (c .before .before .before .before .before .before .before .before .before .into .last .1 .1 .1 .1 .1 .1 .1 .1 .1 .1 .0) (each-path (a .bytes .now) (a .nodes .now) (a .left .now) (a .counts .now) (a .arities .now) low (a .n) (a .key) (a .more) (a .s .now) (a .rows) (a .room) (h .0) (a .path .now) (a .alts .now) (a .depth) (a .written) (a .found) (h .1 .0) p (a .out .now) (a .calls) (c .before .before .before .before .before .before .before .before .before .into .last .1 .1 .1 .1 .1 .1 .1 .0) (c .before .before .before .before .before .before .before .before .before .into .last .1 .1 .1 .1 .1 .1 .1 .1 .1 .0) (c .before .before .before .before .before .before .before .before .before .into .last .1 .1 .1 .1 .1 .1 .1 .1 .1 .1 .0) (c .before .before .before .before .before .before .before .before .before .into .last .1 .1 .1 .1 .1 .1 .1 .1 .1 .1 .1 .1 .0) (c .before .before .before .before .before .before .before .before .before .into .result) (c .before .before .before .before .before .before .before .before .before .into .ensures)) (c .before .before .before .before .before .before .before .before .before .into .ensures .longPath ∙ length-set (a .path .now) (a .depth) (a .key)) (c .before .before .before .before .before .before .before .before .before .into .ensures .longAlts ∙ length-set (a .alts .now) (a .depth) 0) (c .before .before .before .before .before .r .given .0 .0) (c .before .before .before .before .before .r .given .0 .1 .0) (f .0) (f .1),
           (subst (λ (x : List ℕ). Listed (map (headAt (a .nodes .now) (a .left .now) (a .n)) x) (a .key + 1) (a .more - 1)) (sym k) (listed-next (map (headAt (a .nodes .now) (a .left .now) (a .n)) (take (a .rows) (a .s .now))) (a .key) (a .more) (h .1 .1 .0)), (f .2, omega (arith, h .1 .1 .1 .1), omega (arith, h .1 .1 .1 .2), omega (arith, h .1 .1 .1 .3))),
         ),
       ),
     )
 
-each-same-length : (t : ℕ) → each-lts.Need-same-length (each-claims t) (each-at t) each.Post
-each-same-length t c =
-    c .before .before .before .before .before .before .before .before .before .before .into .kept .1 .1 .1 .1 .1 .1 .1 .0
-
-each-same-length-2 : (t : ℕ) → each-lts.Need-same-length-2 (each-claims t) (each-at t) each.Post
-each-same-length-2 t c =
-    c .before .before .before .before .before .before .before .before .before .before .into .kept .1 .1 .1 .1 .1 .1 .1 .1 .1 .0 ∙ length-set (c .before .before .before .before .before .before .before .before .before .before .before .before .before .before .before .before .before .before .before .before .before .before .before .before .before .args .path .now) (c .before .before .before .before .before .before .before .before .before .before .before .before .before .before .before .before .before .before .before .before .before .before .before .before .before .args .depth) (c .before .before .before .before .before .before .before .before .before .before .before .before .before .before .before .before .before .before .before .before .before .before .before .before .before .args .key)
-
-each-same-length-3 : (t : ℕ) → each-lts.Need-same-length-3 (each-claims t) (each-at t) each.Post
-each-same-length-3 t c =
-    c .before .before .before .before .before .before .before .before .before .before .into .kept .1 .1 .1 .1 .1 .1 .1 .1 .1 .1 .0 ∙ length-set (c .before .before .before .before .before .before .before .before .before .before .before .before .before .before .before .before .before .before .before .before .before .before .before .before .before .args .alts .now) (c .before .before .before .before .before .before .before .before .before .before .before .before .before .before .before .before .before .before .before .before .before .before .before .before .before .args .depth) 0
-
-each-same-length-4 : (t : ℕ) → each-lts.Need-same-length-4 (each-claims t) (each-at t) each.Post
-each-same-length-4 t c =
-    c .before .before .before .before .before .before .before .before .before .before .into .kept .1 .1 .1 .1 .1 .1 .1 .1 .1 .1 .1 .1 .0
-
 each-returns-2 : (t : ℕ) → each-lts.Need-returns-2 (each-claims t) (each-at t) each.Post
 each-returns-2 t c =
-    let a = c .before .before .before .before .before .before .before .before .before .before .before .before .before .before .before .before .before .before .before .before .before .before .before .before .before .args in
-    let h = c .before .before .before .before .before .before .before .before .before .before .before .before .before .before .before .before .before .before .before .before .before .before .before .before .before .pre .1 in
-    let low : (h : ℕ) → arOf (a .arities .now) h ≤ 255 = arity-byte (a .arities .now) (λ i. omega (arith, c .before .before .before .before .before .before .before .before .before .before .before .before .before .before .before .before .before .before .before .before .shared-slice-known5 .given i)) in
-    let p : 0 < a .more = omega (arith, c .before .before .before .before .before .before .before .before .before .before .before .before .before .before .before .if1 .left) in
-    each-over (a .bytes .now) (a .nodes .now) (a .left .now) (a .counts .now) (a .arities .now) low (a .n) (a .key) (a .more) (a .s .now) (a .rows) (a .room) (h .0) (a .path .now) (a .alts .now) (a .depth) (a .written) (a .found) (h .1 .0) p (a .out .now) (a .calls) (c .before .before .before .before .before .before .before .before .before .before .into .last .1 .1 .1 .1 .1 .1 .1 .0) (c .before .before .before .before .before .before .before .before .before .before .into .last .1 .1 .1 .1 .1 .1 .1 .1 .1 .0) (c .before .before .before .before .before .before .before .before .before .before .into .last .1 .1 .1 .1 .1 .1 .1 .1 .1 .1 .0) (c .before .before .before .before .before .before .before .before .before .before .into .last .1 .1 .1 .1 .1 .1 .1 .1 .1 .1 .1 .1 .0) (c .before .before .before .before .before .before .before .before .before .before .into .result) (c .before .before .before .before .before .before .before .before .before .before .into .ensures) (c .enum-told .given .1)
-
-each-same-length-5 : (t : ℕ) → each-lts.Need-same-length-5 (each-claims t) (each-at t) each.Post
-each-same-length-5 t c =
-    c .before .before .before .before .before .before .before .before .each .kept .1 .1 .1 .1 .1 .1 .1 .1 .0 ∙ c .before .before .before .before .before .before .before .before .before .before .before .before .before .before .before .before .before .before .before .before .before .before .before .before .into .kept .1 .1 .1 .1 .1 .1 .1 .0
-
-each-same-length-6 : (t : ℕ) → each-lts.Need-same-length-6 (each-claims t) (each-at t) each.Post
-each-same-length-6 t c =
-    c .before .before .before .before .before .before .before .before .each .kept .1 .1 .1 .1 .1 .1 .1 .1 .1 .1 .0 ∙ c .before .before .before .before .before .before .before .before .before .before .before .before .before .before .before .before .before .before .before .before .before .before .before .before .into .kept .1 .1 .1 .1 .1 .1 .1 .1 .1 .0 ∙ length-set (c .before .before .before .before .before .before .before .before .before .before .before .before .before .before .before .before .before .before .before .before .before .before .before .before .before .before .before .before .before .before .before .before .before .before .before .before .before .before .before .args .path .now) (c .before .before .before .before .before .before .before .before .before .before .before .before .before .before .before .before .before .before .before .before .before .before .before .before .before .before .before .before .before .before .before .before .before .before .before .before .before .before .before .args .depth) (c .before .before .before .before .before .before .before .before .before .before .before .before .before .before .before .before .before .before .before .before .before .before .before .before .before .before .before .before .before .before .before .before .before .before .before .before .before .before .before .args .key)
-
-each-same-length-7 : (t : ℕ) → each-lts.Need-same-length-7 (each-claims t) (each-at t) each.Post
-each-same-length-7 t c =
-    c .before .before .before .before .before .before .before .before .each .kept .1 .1 .1 .1 .1 .1 .1 .1 .1 .1 .1 .0 ∙ c .before .before .before .before .before .before .before .before .before .before .before .before .before .before .before .before .before .before .before .before .before .before .before .before .into .kept .1 .1 .1 .1 .1 .1 .1 .1 .1 .1 .0 ∙ length-set (c .before .before .before .before .before .before .before .before .before .before .before .before .before .before .before .before .before .before .before .before .before .before .before .before .before .before .before .before .before .before .before .before .before .before .before .before .before .before .before .args .alts .now) (c .before .before .before .before .before .before .before .before .before .before .before .before .before .before .before .before .before .before .before .before .before .before .before .before .before .before .before .before .before .before .before .before .before .before .before .before .before .before .before .args .depth) 0
-
-each-same-length-8 : (t : ℕ) → each-lts.Need-same-length-8 (each-claims t) (each-at t) each.Post
-each-same-length-8 t c =
-    c .before .before .before .before .before .before .before .before .each .kept .1 .1 .1 .1 .1 .1 .1 .1 .1 .1 .1 .1 .1 .0 ∙ c .before .before .before .before .before .before .before .before .before .before .before .before .before .before .before .before .before .before .before .before .before .before .before .before .into .kept .1 .1 .1 .1 .1 .1 .1 .1 .1 .1 .1 .1 .0
+    let a = c .before .before .before .before .before .before .before .before .before .before .before .before .before .before .before .before .args in
+    let h = c .before .before .before .before .before .before .before .before .before .before .before .before .before .before .before .before .pre .1 in
+    let low : (h : ℕ) → arOf (a .arities .now) h ≤ 255 = arity-byte (a .arities .now) (λ i. omega (arith, c .before .before .before .before .before .before .before .before .before .before .before .shared-slice-known5 .given i)) in
+    let p : 0 < a .more = omega (arith, c .before .before .before .before .before .before .before .before .before .if1 .left) in
+    each-over (a .bytes .now) (a .nodes .now) (a .left .now) (a .counts .now) (a .arities .now) low (a .n) (a .key) (a .more) (a .s .now) (a .rows) (a .room) (h .0) (a .path .now) (a .alts .now) (a .depth) (a .written) (a .found) (h .1 .0) p (a .out .now) (a .calls) (c .before .before .before .before .into .last .1 .1 .1 .1 .1 .1 .1 .0) (c .before .before .before .before .into .last .1 .1 .1 .1 .1 .1 .1 .1 .1 .0) (c .before .before .before .before .into .last .1 .1 .1 .1 .1 .1 .1 .1 .1 .1 .0) (c .before .before .before .before .into .last .1 .1 .1 .1 .1 .1 .1 .1 .1 .1 .1 .1 .0) (c .before .before .before .before .into .result) (c .before .before .before .before .into .ensures) (c .enum-told .given .1)
 
 each-returns-3 : (t : ℕ) → each-lts.Need-returns-3 (each-claims t) (each-at t) each.Post
 each-returns-3 t c =
-    let a = c .before .before .before .before .before .before .before .before .before .before .before .before .before .before .before .before .before .before .before .before .before .before .before .before .before .before .before .before .before .before .before .before .before .before .before .before .before .before .before .args in
-    let h = c .before .before .before .before .before .before .before .before .before .before .before .before .before .before .before .before .before .before .before .before .before .before .before .before .before .before .before .before .before .before .before .before .before .before .before .before .before .before .before .pre .1 in
-    let low : (h : ℕ) → arOf (a .arities .now) h ≤ 255 = arity-byte (a .arities .now) (λ i. omega (arith, c .before .before .before .before .before .before .before .before .before .before .before .before .before .before .before .before .before .before .before .before .before .before .before .before .before .before .before .before .before .before .before .before .before .before .shared-slice-known5 .given i)) in
-    let p : 0 < a .more = omega (arith, c .before .before .before .before .before .before .before .before .before .before .before .before .before .before .before .before .before .before .before .before .before .before .before .before .before .before .before .before .before .if1 .left) in
-    let q = c .before .before .before .before .before .before .before .before .each in
-    each-then (a .bytes .now) (a .nodes .now) (a .left .now) (a .counts .now) (a .arities .now) low (a .n) (a .key) (a .more) (a .s .now) (a .rows) (a .room) (h .0) (a .path .now) (a .alts .now) (a .depth) (a .written) (a .found) (h .1 .0) p (a .out .now) (a .calls) (c .before .before .before .before .before .before .before .before .before .before .before .before .before .before .before .before .before .before .before .before .before .before .before .before .into .last .1 .1 .1 .1 .1 .1 .1 .0) (c .before .before .before .before .before .before .before .before .before .before .before .before .before .before .before .before .before .before .before .before .before .before .before .before .into .last .1 .1 .1 .1 .1 .1 .1 .1 .1 .0) (c .before .before .before .before .before .before .before .before .before .before .before .before .before .before .before .before .before .before .before .before .before .before .before .before .into .last .1 .1 .1 .1 .1 .1 .1 .1 .1 .1 .0) (c .before .before .before .before .before .before .before .before .before .before .before .before .before .before .before .before .before .before .before .before .before .before .before .before .into .last .1 .1 .1 .1 .1 .1 .1 .1 .1 .1 .1 .1 .0) (c .before .before .before .before .before .before .before .before .before .before .before .before .before .before .before .before .before .before .before .before .before .before .before .before .into .result) (c .before .before .before .before .before .before .before .before .before .before .before .before .before .before .before .before .before .before .before .before .before .before .before .before .into .ensures) (c .before .before .before .before .before .before .before .before .before .before .before .before .before .before .r .given .0 .0) (c .before .before .before .before .before .before .before .before .before .before .before .before .before .before .r .given .0 .1 .0) (c .before .before .before .before .before .before .before .before .before .before .before .before .before .before .r .given .0 .1 .1 .0) (c .before .before .before .before .before .before .before .before .before .before .before .before .before .before .r .given .1) (q .last .1 .1 .1 .1 .1 .1 .1 .1 .0) (q .last .1 .1 .1 .1 .1 .1 .1 .1 .1 .1 .0) (q .last .1 .1 .1 .1 .1 .1 .1 .1 .1 .1 .1 .0) (q .last .1 .1 .1 .1 .1 .1 .1 .1 .1 .1 .1 .1 .1 .0) (q .result) (q .ensures)
+    let a = c .before .before .before .before .before .before .before .before .before .before .before .before .before .before .before .before .before .before .before .before .before .before .before .before .args in
+    let h = c .before .before .before .before .before .before .before .before .before .before .before .before .before .before .before .before .before .before .before .before .before .before .before .before .pre .1 in
+    let low : (h : ℕ) → arOf (a .arities .now) h ≤ 255 = arity-byte (a .arities .now) (λ i. omega (arith, c .before .before .before .before .before .before .before .before .before .before .before .before .before .before .before .before .before .before .before .shared-slice-known5 .given i)) in
+    let p : 0 < a .more = omega (arith, c .before .before .before .before .before .before .before .before .before .before .before .before .before .before .before .before .before .if1 .left) in
+    let q = c .before .before .each in
+    each-then (a .bytes .now) (a .nodes .now) (a .left .now) (a .counts .now) (a .arities .now) low (a .n) (a .key) (a .more) (a .s .now) (a .rows) (a .room) (h .0) (a .path .now) (a .alts .now) (a .depth) (a .written) (a .found) (h .1 .0) p (a .out .now) (a .calls) (c .before .before .before .before .before .before .before .before .before .before .before .before .into .last .1 .1 .1 .1 .1 .1 .1 .0) (c .before .before .before .before .before .before .before .before .before .before .before .before .into .last .1 .1 .1 .1 .1 .1 .1 .1 .1 .0) (c .before .before .before .before .before .before .before .before .before .before .before .before .into .last .1 .1 .1 .1 .1 .1 .1 .1 .1 .1 .0) (c .before .before .before .before .before .before .before .before .before .before .before .before .into .last .1 .1 .1 .1 .1 .1 .1 .1 .1 .1 .1 .1 .0) (c .before .before .before .before .before .before .before .before .before .before .before .before .into .result) (c .before .before .before .before .before .before .before .before .before .before .before .before .into .ensures) (c .before .before .before .before .before .before .before .before .r .given .0 .0) (c .before .before .before .before .before .before .before .before .r .given .0 .1 .0) (c .before .before .before .before .before .before .before .before .r .given .0 .1 .1 .0) (c .before .before .before .before .before .before .before .before .r .given .1) (q .last .1 .1 .1 .1 .1 .1 .1 .1 .0) (q .last .1 .1 .1 .1 .1 .1 .1 .1 .1 .1 .0) (q .last .1 .1 .1 .1 .1 .1 .1 .1 .1 .1 .1 .0) (q .last .1 .1 .1 .1 .1 .1 .1 .1 .1 .1 .1 .1 .1 .0) (q .result) (q .ensures)
 
 into-add-if1 : (t : ℕ) → into-lts.Need-add-if1 (into-claims t) (into-at t) into.Post
 into-add-if1 t c =
-    let h = c .before .before .before .before .before .before .before .before .before .pre .1 in
+    let h = c .before .before .before .before .before .before .pre .1 in
     omega (arith, h .0 .low)
 
 into-aside-requires : (t : ℕ) → into-lts.Need-aside-requires (into-claims t) (into-at t) into.Post
 into-aside-requires t c κs =
-    let a = c .before .before .before .before .before .before .before .before .before .before .before .before .before .before .args in
-    let h = c .before .before .before .before .before .before .before .before .before .before .before .before .before .before .pre .1 in
-    (short-falls (a .bytes .now) (a .nodes .now) (a .left .now) (a .counts .now) (a .arities .now) (a .n) (a .key) (a .s .now) (a .rows) t (c .before .before .before .before .if1 .taken) (c .before .before .before .before .before .before .before .before .before .before .before .before .before .before .pre .0), (h .0, (h .1 .0, (h .1 .1, omega (arith, h .0 .low, h .0 .space, c .before .before .before .before .if1 .taken)))))
-
-into-same-length : (t : ℕ) → into-lts.Need-same-length (into-claims t) (into-at t) into.Post
-into-same-length t c =
-    refl
-
-into-same-length-2 : (t : ℕ) → into-lts.Need-same-length-2 (into-claims t) (into-at t) into.Post
-into-same-length-2 t c =
-    c .before .before .before .before .before .before .aside .kept .1 .1 .1 .1 .1 .1 .1 .1 .1 .0
-
-into-same-length-3 : (t : ℕ) → into-lts.Need-same-length-3 (into-claims t) (into-at t) into.Post
-into-same-length-3 t c =
-    c .before .before .before .before .before .before .aside .kept .1 .1 .1 .1 .1 .1 .1 .1 .1 .1 .0
-
-into-same-length-4 : (t : ℕ) → into-lts.Need-same-length-4 (into-claims t) (into-at t) into.Post
-into-same-length-4 t c =
-    c .before .before .before .before .before .before .aside .kept .1 .1 .1 .1 .1 .1 .1 .1 .1 .1 .1 .1 .0
+    let a = c .before .before .before .before .before .before .before .before .before .before .before .args in
+    let h = c .before .before .before .before .before .before .before .before .before .before .before .pre .1 in
+    (short-falls (a .bytes .now) (a .nodes .now) (a .left .now) (a .counts .now) (a .arities .now) (a .n) (a .key) (a .s .now) (a .rows) t (c .before .before .before .before .if1 .taken) (c .before .before .before .before .before .before .before .before .before .before .before .pre .0), (h .0, (h .1 .0, (h .1 .1, omega (arith, h .0 .low, h .0 .space, c .before .before .before .before .if1 .taken)))))
 
 into-returns : (t : ℕ) → into-lts.Need-returns (into-claims t) (into-at t) into.Post
 into-returns t c =
-    c .before .before .before .before .before .before .aside .ensures
+    c .aside .ensures
 
 into-specialize-requires : (t : ℕ) → into-lts.Need-specialize-requires (into-claims t) (into-at t) into.Post
 into-specialize-requires t c κs =
-    let a = c .before .before .before .before .before .before .before .before .before .before .before .args in
-    let h = c .before .before .before .before .before .before .before .before .before .before .before .pre .1 in
+    let a = c .before .before .before .before .before .before .before .before .args in
+    let h = c .before .before .before .before .before .before .before .before .pre .1 in
     (steady (a .nodes .now) (a .left .now) (a .counts .now) (a .arities .now) (a .n) (take (a .rows) (a .s .now)) (h .0 .places) (h .0 .some) (h .0 .sizes .short), c .before .if1 .left)
 
 into-arity-requires : (t : ℕ) → into-lts.Need-arity-requires (into-claims t) (into-at t) into.Post
@@ -542,34 +438,34 @@ into-arity-requires t c κs =
 
 into-sub-collect-missing-patterns : (t : ℕ) → into-lts.Need-sub-collect-missing-patterns (into-claims t) (into-at t) into.Post
 into-sub-collect-missing-patterns t c =
-    let h = c .before .before .before .before .before .before .before .before .before .before .before .before .before .before .before .pre .1 in
+    let h = c .before .before .before .before .before .before .before .before .before .before .before .before .pre .1 in
     h .0 .some
 
 into-add-collect-missing-patterns : (t : ℕ) → into-lts.Need-add-collect-missing-patterns (into-claims t) (into-at t) into.Post
 into-add-collect-missing-patterns t c =
-    let a = c .before .before .before .before .before .before .before .before .before .before .before .before .before .before .before .args in
-    let h = c .before .before .before .before .before .before .before .before .before .before .before .before .before .before .before .pre .1 in
-    let low : (h : ℕ) → arOf (a .arities .now) h ≤ 255 = arity-byte (a .arities .now) (λ i. omega (arith, c .before .before .before .before .before .before .before .before .before .before .shared-slice-known5 .given i)) in
+    let a = c .before .before .before .before .before .before .before .before .before .before .before .before .args in
+    let h = c .before .before .before .before .before .before .before .before .before .before .before .before .pre .1 in
+    let low : (h : ℕ) → arOf (a .arities .now) h ≤ 255 = arity-byte (a .arities .now) (λ i. omega (arith, c .before .before .before .before .before .before .before .shared-slice-known5 .given i)) in
     omega (arith, c .arity .ensures, low (a .key), h .0 .wide)
 
 into-mul-collect-missing-patterns : (t : ℕ) → into-lts.Need-mul-collect-missing-patterns (into-claims t) (into-at t) into.Post
 into-mul-collect-missing-patterns t c =
-    let h = c .before .before .before .before .before .before .before .before .before .before .before .before .before .before .before .pre .1 in
+    let h = c .before .before .before .before .before .before .before .before .before .before .before .before .pre .1 in
     omega (arith, h .0 .low)
 
 into-sub-collect-missing-patterns-2 : (t : ℕ) → into-lts.Need-sub-collect-missing-patterns-2 (into-claims t) (into-at t) into.Post
 into-sub-collect-missing-patterns-2 t c =
-    let a = c .before .before .before .before .before .before .before .before .before .before .before .before .before .before .before .args in
-    let h = c .before .before .before .before .before .before .before .before .before .before .before .before .before .before .before .pre .1 in
-    let low : (h : ℕ) → arOf (a .arities .now) h ≤ 255 = arity-byte (a .arities .now) (λ i. omega (arith, c .before .before .before .before .before .before .before .before .before .before .shared-slice-known5 .given i)) in
+    let a = c .before .before .before .before .before .before .before .before .before .before .before .before .args in
+    let h = c .before .before .before .before .before .before .before .before .before .before .before .before .pre .1 in
+    let low : (h : ℕ) → arOf (a .arities .now) h ≤ 255 = arity-byte (a .arities .now) (λ i. omega (arith, c .before .before .before .before .before .before .before .shared-slice-known5 .given i)) in
     omega (arith, into-length (a .bytes .now) (a .nodes .now) (a .left .now) (a .counts .now) (a .arities .now) low (a .n) (a .key) (a .s .now) (a .rows) (a .room) (h .0) (c .before .before .before .before .before .if1 .left) (c .before .before .before .specialize .result) (c .before .before .before .specialize .last .1 .1 .1 .1 .1 .0) (c .before .before .before .specialize .ensures) (c .arity .result) (c .arity .ensures), h .0 .space)
 
 into-part-collect-missing-patterns-start :
     (t : ℕ) → into-lts.Need-part-collect-missing-patterns-start (into-claims t) (into-at t) into.Post
 into-part-collect-missing-patterns-start t c =
-    let a = c .before .before .before .before .before .before .before .before .before .before .before .before .before .before .before .args in
-    let h = c .before .before .before .before .before .before .before .before .before .before .before .before .before .before .before .pre .1 in
-    let low : (h : ℕ) → arOf (a .arities .now) h ≤ 255 = arity-byte (a .arities .now) (λ i. omega (arith, c .before .before .before .before .before .before .before .before .before .before .shared-slice-known5 .given i)) in
+    let a = c .before .before .before .before .before .before .before .before .before .before .before .before .args in
+    let h = c .before .before .before .before .before .before .before .before .before .before .before .before .pre .1 in
+    let low : (h : ℕ) → arOf (a .arities .now) h ≤ 255 = arity-byte (a .arities .now) (λ i. omega (arith, c .before .before .before .before .before .before .before .shared-slice-known5 .given i)) in
     omega (arith, into-length (a .bytes .now) (a .nodes .now) (a .left .now) (a .counts .now) (a .arities .now) low (a .n) (a .key) (a .s .now) (a .rows) (a .room) (h .0) (c .before .before .before .before .before .if1 .left) (c .before .before .before .specialize .result) (c .before .before .before .specialize .last .1 .1 .1 .1 .1 .0) (c .before .before .before .specialize .ensures) (c .arity .result) (c .arity .ensures), h .0 .space)
 
 into-part-collect-missing-patterns-end : (t : ℕ) → into-lts.Need-part-collect-missing-patterns-end (into-claims t) (into-at t) into.Post
@@ -578,37 +474,45 @@ into-part-collect-missing-patterns-end t c =
 
 into-collect-missing-patterns-requires : (t : ℕ) → into-lts.Need-collect-missing-patterns-requires (into-claims t) (into-at t) into.Post
 into-collect-missing-patterns-requires t c κs =
-    let a = c .before .before .before .before .before .before .before .before .before .before .before .before .before .before .before .before .before .before .before .args in
-    let h = c .before .before .before .before .before .before .before .before .before .before .before .before .before .before .before .before .before .before .before .pre .1 in
-    let low : (h : ℕ) → arOf (a .arities .now) h ≤ 255 = arity-byte (a .arities .now) (λ i. omega (arith, c .before .before .before .before .before .before .before .before .before .before .before .before .before .before .shared-slice-known5 .given i)) in
-    (into-falls (a .bytes .now) (a .nodes .now) (a .left .now) (a .counts .now) (a .arities .now) low (a .n) (a .key) (a .s .now) (a .rows) (a .room) (h .0) (c .before .before .before .before .before .before .before .before .before .if1 .left) (c .before .before .before .before .before .before .before .specialize .result) (c .before .before .before .before .before .before .before .specialize .last .1 .1 .1 .1 .1 .0) (c .before .before .before .before .before .before .before .specialize .ensures) (c .before .before .before .before .arity .result) (c .before .before .before .before .arity .ensures) t (c .before .before .before .before .before .before .before .before .before .before .before .before .before .before .before .before .before .before .before .pre .0), (into-opened (a .bytes .now) (a .nodes .now) (a .left .now) (a .counts .now) (a .arities .now) low (a .n) (a .key) (a .s .now) (a .rows) (a .room) (h .0) (c .before .before .before .before .before .before .before .before .before .if1 .left) (c .before .before .before .before .before .before .before .specialize .result) (c .before .before .before .before .before .before .before .specialize .last .1 .1 .1 .1 .1 .0) (c .before .before .before .before .before .before .before .specialize .ensures) (c .before .before .before .before .arity .result) (c .before .before .before .before .arity .ensures), (h .1 .0, omega (arith, h .1 .1))))
-
-into-same-length-5 : (t : ℕ) → into-lts.Need-same-length-5 (into-claims t) (into-at t) into.Post
-into-same-length-5 t c =
-    let a = c .before .before .before .before .before .before .before .before .before .before .before .before .before .before .before .before .before .before .before .before .before .before .before .before .before .before .before .before .args in
-    let h = c .before .before .before .before .before .before .before .before .before .before .before .before .before .before .before .before .before .before .before .before .before .before .before .before .before .before .before .before .pre .1 in
-    let low : (h : ℕ) → arOf (a .arities .now) h ≤ 255 = arity-byte (a .arities .now) (λ i. omega (arith, c .before .before .before .before .before .before .before .before .before .before .before .before .before .before .before .before .before .before .before .before .before .before .before .shared-slice-known5 .given i)) in
-    same-len-mid (a .rows) (length (c .before .before .before .before .before .before .before .before .before .before .before .before .before .before .before .before .specialize .last .1 .1 .1 .1 .1 .0) - a .rows) (c .before .before .before .before .before .before .before .before .before .before .before .before .before .before .before .before .specialize .last .1 .1 .1 .1 .1 .0) (c .before .before .before .before .before .before .before .before .collect-missing-patterns .last .1 .1 .1 .1 .1 .1 .0) (c .before .before .before .before .before .before .before .before .collect-missing-patterns .kept .1 .1 .1 .1 .1 .1 .0) ∙ into-length (a .bytes .now) (a .nodes .now) (a .left .now) (a .counts .now) (a .arities .now) low (a .n) (a .key) (a .s .now) (a .rows) (a .room) (h .0) (c .before .before .before .before .before .before .before .before .before .before .before .before .before .before .before .before .before .before .if1 .left) (c .before .before .before .before .before .before .before .before .before .before .before .before .before .before .before .before .specialize .result) (c .before .before .before .before .before .before .before .before .before .before .before .before .before .before .before .before .specialize .last .1 .1 .1 .1 .1 .0) (c .before .before .before .before .before .before .before .before .before .before .before .before .before .before .before .before .specialize .ensures) (c .before .before .before .before .before .before .before .before .before .before .before .before .before .arity .result) (c .before .before .before .before .before .before .before .before .before .before .before .before .before .arity .ensures)
-
-into-same-length-6 : (t : ℕ) → into-lts.Need-same-length-6 (into-claims t) (into-at t) into.Post
-into-same-length-6 t c =
-    c .before .before .before .before .before .before .before .before .collect-missing-patterns .kept .1 .1 .1 .1 .1 .1 .1 .1 .0
-
-into-same-length-7 : (t : ℕ) → into-lts.Need-same-length-7 (into-claims t) (into-at t) into.Post
-into-same-length-7 t c =
-    c .before .before .before .before .before .before .before .before .collect-missing-patterns .kept .1 .1 .1 .1 .1 .1 .1 .1 .1 .0
-
-into-same-length-8 : (t : ℕ) → into-lts.Need-same-length-8 (into-claims t) (into-at t) into.Post
-into-same-length-8 t c =
-    c .before .before .before .before .before .before .before .before .collect-missing-patterns .kept .1 .1 .1 .1 .1 .1 .1 .1 .1 .1 .1 .0
+    let a = c .before .before .before .before .before .before .before .before .before .before .before .before .before .before .before .before .args in
+    let h = c .before .before .before .before .before .before .before .before .before .before .before .before .before .before .before .before .pre .1 in
+    let low : (h : ℕ) → arOf (a .arities .now) h ≤ 255 = arity-byte (a .arities .now) (λ i. omega (arith, c .before .before .before .before .before .before .before .before .before .before .before .shared-slice-known5 .given i)) in
+    (into-falls (a .bytes .now) (a .nodes .now) (a .left .now) (a .counts .now) (a .arities .now) low (a .n) (a .key) (a .s .now) (a .rows) (a .room) (h .0) (c .before .before .before .before .before .before .before .before .before .if1 .left) (c .before .before .before .before .before .before .before .specialize .result) (c .before .before .before .before .before .before .before .specialize .last .1 .1 .1 .1 .1 .0) (c .before .before .before .before .before .before .before .specialize .ensures) (c .before .before .before .before .arity .result) (c .before .before .before .before .arity .ensures) t (c .before .before .before .before .before .before .before .before .before .before .before .before .before .before .before .before .pre .0), (into-opened (a .bytes .now) (a .nodes .now) (a .left .now) (a .counts .now) (a .arities .now) low (a .n) (a .key) (a .s .now) (a .rows) (a .room) (h .0) (c .before .before .before .before .before .before .before .before .before .if1 .left) (c .before .before .before .before .before .before .before .specialize .result) (c .before .before .before .before .before .before .before .specialize .last .1 .1 .1 .1 .1 .0) (c .before .before .before .before .before .before .before .specialize .ensures) (c .before .before .before .before .arity .result) (c .before .before .before .before .arity .ensures), (h .1 .0, omega (arith, h .1 .1))))
 
 into-returns-2 : (t : ℕ) → into-lts.Need-returns-2 (into-claims t) (into-at t) into.Post
 into-returns-2 t c =
-    let a = c .before .before .before .before .before .before .before .before .before .before .before .before .before .before .before .before .before .before .before .before .before .before .before .before .before .before .before .before .args in
-    let h = c .before .before .before .before .before .before .before .before .before .before .before .before .before .before .before .before .before .before .before .before .before .before .before .before .before .before .before .before .pre .1 in
-    let low : (h : ℕ) → arOf (a .arities .now) h ≤ 255 = arity-byte (a .arities .now) (λ i. omega (arith, c .before .before .before .before .before .before .before .before .before .before .before .before .before .before .before .before .before .before .before .before .before .before .before .shared-slice-known5 .given i)) in
-    let q = c .before .before .before .before .before .before .before .before .collect-missing-patterns in
-    into-sought (a .bytes .now) (a .nodes .now) (a .left .now) (a .counts .now) (a .arities .now) low (a .n) (a .key) (a .s .now) (a .rows) (a .room) (h .0) (c .before .before .before .before .before .before .before .before .before .before .before .before .before .before .before .before .before .before .if1 .left) (c .before .before .before .before .before .before .before .before .before .before .before .before .before .before .before .before .specialize .result) (c .before .before .before .before .before .before .before .before .before .before .before .before .before .before .before .before .specialize .last .1 .1 .1 .1 .1 .0) (c .before .before .before .before .before .before .before .before .before .before .before .before .before .before .before .before .specialize .ensures) (c .before .before .before .before .before .before .before .before .before .before .before .before .before .arity .result) (c .before .before .before .before .before .before .before .before .before .before .before .before .before .arity .ensures) (q .last .1 .1 .1 .1 .1 .1 .0) (a .path .now) (q .last .1 .1 .1 .1 .1 .1 .1 .1 .0) (a .alts .now) (q .last .1 .1 .1 .1 .1 .1 .1 .1 .1 .0) (a .depth) (a .out .now) (q .last .1 .1 .1 .1 .1 .1 .1 .1 .1 .1 .1 .0) (a .written) (a .found) (a .calls) (q .result) (q .ensures)
+    let a = c .before .before .before .before .before .before .before .before .before .before .before .before .before .before .before .before .before .before .before .args in
+    let h = c .before .before .before .before .before .before .before .before .before .before .before .before .before .before .before .before .before .before .before .pre .1 in
+    let low : (h : ℕ) → arOf (a .arities .now) h ≤ 255 = arity-byte (a .arities .now) (λ i. omega (arith, c .before .before .before .before .before .before .before .before .before .before .before .before .before .before .shared-slice-known5 .given i)) in
+    let q = c .before .before .collect-missing-patterns in
+    into-sought (a .bytes .now) (a .nodes .now) (a .left .now) (a .counts .now) (a .arities .now) low (a .n) (a .key) (a .s .now) (a .rows) (a .room) (h .0) (c .before .before .before .before .before .before .before .before .before .before .before .before .if1 .left) (c .before .before .before .before .before .before .before .before .before .before .specialize .result) (c .before .before .before .before .before .before .before .before .before .before .specialize .last .1 .1 .1 .1 .1 .0) (c .before .before .before .before .before .before .before .before .before .before .specialize .ensures) (c .before .before .before .before .before .before .before .arity .result) (c .before .before .before .before .before .before .before .arity .ensures) (q .last .1 .1 .1 .1 .1 .1 .0) (a .path .now) (q .last .1 .1 .1 .1 .1 .1 .1 .1 .0) (a .alts .now) (q .last .1 .1 .1 .1 .1 .1 .1 .1 .1 .0) (a .depth) (a .out .now) (q .last .1 .1 .1 .1 .1 .1 .1 .1 .1 .1 .1 .0) (a .written) (a .found) (a .calls) (q .result) (q .ensures)
+
+collect-missing-patterns-same-length : (t : ℕ) → collect-missing-patterns-lts.Need-same-length (collect-missing-patterns-claims t) (collect-missing-patterns-at t) collect-missing-patterns.Post
+collect-missing-patterns-same-length t c =
+    c .before .before .each .kept .1 .1 .1 .1 .1 .1 .1 .1 .0
+
+collect-missing-patterns-same-length-2 : (t : ℕ) → collect-missing-patterns-lts.Need-same-length-2 (collect-missing-patterns-claims t) (collect-missing-patterns-at t) collect-missing-patterns.Post
+collect-missing-patterns-same-length-2 t c =
+    c .before .before .into .kept .1 .1 .1 .1 .1 .1 .1 .0
+
+each-same-length : (t : ℕ) → each-lts.Need-same-length (each-claims t) (each-at t) each.Post
+each-same-length t c =
+    c .before .before .before .before .into .kept .1 .1 .1 .1 .1 .1 .1 .0
+
+each-same-length-2 : (t : ℕ) → each-lts.Need-same-length-2 (each-claims t) (each-at t) each.Post
+each-same-length-2 t c =
+    c .before .before .each .kept .1 .1 .1 .1 .1 .1 .1 .1 .0 ∙ c .before .before .before .before .before .before .before .before .before .before .before .before .into .kept .1 .1 .1 .1 .1 .1 .1 .0
+
+into-same-length : (t : ℕ) → into-lts.Need-same-length (into-claims t) (into-at t) into.Post
+into-same-length t c =
+    refl
+
+into-same-length-2 : (t : ℕ) → into-lts.Need-same-length-2 (into-claims t) (into-at t) into.Post
+into-same-length-2 t c =
+    let a = c .before .before .before .before .before .before .before .before .before .before .before .before .before .before .before .before .before .before .before .args in
+    let h = c .before .before .before .before .before .before .before .before .before .before .before .before .before .before .before .before .before .before .before .pre .1 in
+    let low : (h : ℕ) → arOf (a .arities .now) h ≤ 255 = arity-byte (a .arities .now) (λ i. omega (arith, c .before .before .before .before .before .before .before .before .before .before .before .before .before .before .shared-slice-known5 .given i)) in
+    same-len-mid (a .rows) (length (c .before .before .before .before .before .before .before .before .before .before .specialize .last .1 .1 .1 .1 .1 .0) - a .rows) (c .before .before .before .before .before .before .before .before .before .before .specialize .last .1 .1 .1 .1 .1 .0) (c .before .before .collect-missing-patterns .last .1 .1 .1 .1 .1 .1 .0) (c .before .before .collect-missing-patterns .kept .1 .1 .1 .1 .1 .1 .0) ∙ into-length (a .bytes .now) (a .nodes .now) (a .left .now) (a .counts .now) (a .arities .now) low (a .n) (a .key) (a .s .now) (a .rows) (a .room) (h .0) (c .before .before .before .before .before .before .before .before .before .before .before .before .if1 .left) (c .before .before .before .before .before .before .before .before .before .before .specialize .result) (c .before .before .before .before .before .before .before .before .before .before .specialize .last .1 .1 .1 .1 .1 .0) (c .before .before .before .before .before .before .before .before .before .before .specialize .ensures) (c .before .before .before .before .before .before .before .arity .result) (c .before .before .before .before .before .before .before .arity .ensures)
 
 pub +aside+collect-missing-patterns+each+into-spec : {M : Type 1} → statement M
 +aside+collect-missing-patterns+each+into-spec =
@@ -619,9 +523,6 @@ pub +aside+collect-missing-patterns+each+into-spec : {M : Type 1} → statement 
     (aside-copy-requires t)
     (aside-slice-aggregate-into t)
     (aside-into-requires t)
-    (aside-same-length t)
-    (aside-same-length-2 t)
-    (aside-same-length-3 t)
     (aside-returns t))
     (λ t. collect-missing-patterns-lts.spec (collect-missing-patterns-claims t)
     (collect-missing-patterns-at t)
@@ -631,9 +532,6 @@ pub +aside+collect-missing-patterns+each+into-spec : {M : Type 1} → statement 
     (collect-missing-patterns-returns t)
     (collect-missing-patterns-put-rows-requires t)
     (collect-missing-patterns-counted-requires t)
-    (collect-missing-patterns-same-length t)
-    (collect-missing-patterns-same-length-2 t)
-    (collect-missing-patterns-same-length-3 t)
     (collect-missing-patterns-returns-2 t)
     (collect-missing-patterns-counted-requires-2 t)
     (collect-missing-patterns-returns-3 t)
@@ -646,22 +544,16 @@ pub +aside+collect-missing-patterns+each+into-spec : {M : Type 1} → statement 
     (collect-missing-patterns-each-requires t)
     (collect-missing-patterns-enum-known-column-2 t)
     (collect-missing-patterns-mul-path t)
-    (collect-missing-patterns-slice-write-path t)
+    (collect-missing-patterns-element-write-path t)
     (collect-missing-patterns-mul-alts t)
-    (collect-missing-patterns-slice-write-alts t)
+    (collect-missing-patterns-element-write-alts t)
     (collect-missing-patterns-add-into t)
     (collect-missing-patterns-add-into-2 t)
     (collect-missing-patterns-sub-into t)
     (collect-missing-patterns-into-requires t)
-    (collect-missing-patterns-same-length-4 t)
-    (collect-missing-patterns-same-length-5 t)
-    (collect-missing-patterns-same-length-6 t)
-    (collect-missing-patterns-same-length-7 t)
+    (collect-missing-patterns-same-length t)
     (collect-missing-patterns-returns-4 t)
-    (collect-missing-patterns-same-length-8 t)
-    (collect-missing-patterns-same-length-9 t)
-    (collect-missing-patterns-same-length-10 t)
-    (collect-missing-patterns-same-length-11 t)
+    (collect-missing-patterns-same-length-2 t)
     (collect-missing-patterns-returns-5 t))
     (λ t. each-lts.spec
     (each-claims t)
@@ -669,9 +561,9 @@ pub +aside+collect-missing-patterns+each+into-spec : {M : Type 1} → statement 
     each.Post
     (each-returns t)
     (each-mul-path t)
-    (each-slice-write-path t)
+    (each-element-write-path t)
     (each-mul-alts t)
-    (each-slice-write-alts t)
+    (each-element-write-alts t)
     (each-add-into t)
     (each-into-requires t)
     (each-enum-told t)
@@ -680,14 +572,8 @@ pub +aside+collect-missing-patterns+each+into-spec : {M : Type 1} → statement 
     (each-sub-each t)
     (each-each-requires t)
     (each-same-length t)
-    (each-same-length-2 t)
-    (each-same-length-3 t)
-    (each-same-length-4 t)
     (each-returns-2 t)
-    (each-same-length-5 t)
-    (each-same-length-6 t)
-    (each-same-length-7 t)
-    (each-same-length-8 t)
+    (each-same-length-2 t)
     (each-returns-3 t))
     λ t. into-lts.spec (into-claims t)
     (into-at t)
@@ -695,9 +581,6 @@ pub +aside+collect-missing-patterns+each+into-spec : {M : Type 1} → statement 
     (into-add-if1 t)
     (into-aside-requires t)
     (into-same-length t)
-    (into-same-length-2 t)
-    (into-same-length-3 t)
-    (into-same-length-4 t)
     (into-returns t)
     (into-specialize-requires t)
     (into-arity-requires t)
@@ -708,8 +591,5 @@ pub +aside+collect-missing-patterns+each+into-spec : {M : Type 1} → statement 
     (into-part-collect-missing-patterns-start t)
     (into-part-collect-missing-patterns-end t)
     (into-collect-missing-patterns-requires t)
-    (into-same-length-5 t)
-    (into-same-length-6 t)
-    (into-same-length-7 t)
-    (into-same-length-8 t)
+    (into-same-length-2 t)
     (into-returns-2 t)
