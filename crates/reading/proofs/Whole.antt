@@ -1,5 +1,5 @@
 -- The answer for a whole file: from its length, and from what its lines answer and the slices hold afterwards.
-use mathlib.Core.Path.{_≡_, sym, ap, _∙_}
+use mathlib.Core.Path.{_≡_, refl, sym, ap, _∙_}
 use mathlib.Core.Bool.{Bool, cond}
 use mathlib.Core.List.{List}
 use Prim.Native.Nat.{ℕ, _≤_, _<_}
@@ -46,31 +46,31 @@ pub block-read : {file : List ℕ} {h : Held} {r : Parsed} (subject clauses type
 block-read subject clauses types e (saysBlock b is x) = aBlock b is x
 block-read subject clauses types e (saysFault f) = clash (cc)
 
-pub fault-read : {file : List ℕ} {h : Held} {r : Parsed} {bytes kinds counts arities starts names fields labels nodes left rows : List ℕ} (n k : ℕ) → r ≡ Faulty n k → LinesAs file h r → bytes ≡ replicate 24576 0 → (kinds ≡ replicate 64 0) × (counts ≡ replicate 64 0) → (arities ≡ replicate 2048 0) × ((starts ≡ replicate 2048 0) × (names ≡ replicate 2048 0))
-    → (fields ≡ replicate 5120 0) × (labels ≡ replicate 5120 0) → (nodes ≡ replicate 4160 0) × ((left ≡ replicate 4160 0) × (rows ≡ replicate 64 0)) → ReadAs file (held bytes kinds counts arities starts names fields labels nodes left rows) r
-fault-read n k e (saysBlock b is x) z t c f w = clash (cc)
-fault-read n k e (saysFault is) z t c f w =
+pub fault-read : {file : List ℕ} {h : Held} {r : Parsed} {arities starts names : List ℕ} (n k : ℕ) → r ≡ Faulty n k → LinesAs file h r → (arities ≡ replicate 2048 0) × ((starts ≡ replicate 2048 0) × (names ≡ replicate 2048 0))
+    → ReadAs file (held (replicate 24576 0) (replicate 64 0) (replicate 64 0) arities starts names (replicate 5120 0) (replicate 5120 0) (replicate 4160 0) (replicate 4160 0) (replicate 64 0)) r
+fault-read n k e (saysBlock b is x) c = clash (cc)
+fault-read n k e (saysFault is) c =
     aFault is (record {
-      kindsLong = zero-long 64 (t .0);
-      countsLong = zero-long 64 (t .1);
+      kindsLong = zero-long 64 refl;
+      countsLong = zero-long 64 refl;
       aritiesLong = zero-long 2048 (c .0);
       startsLong = zero-long 2048 (c .1 .0);
       namesLong = zero-long 2048 (c .1 .1);
-      fieldsLong = zero-long 5120 (f .0);
-      labelsLong = zero-long 5120 (f .1);
-      nodesLong = zero-long 4160 (w .0);
-      leftLong = zero-long 4160 (w .1 .0);
-      rowsLong = zero-long 64 (w .1 .1);
+      fieldsLong = zero-long 5120 refl;
+      labelsLong = zero-long 5120 refl;
+      nodesLong = zero-long 4160 refl;
+      leftLong = zero-long 4160 refl;
+      rowsLong = zero-long 64 refl;
     }) (record {
-      bytesZero = zero-now 24576 z;
-      kindsZero = zero-now 64 (t .0);
-      countsZero = zero-now 64 (t .1);
+      bytesZero = zero-now 24576 refl;
+      kindsZero = zero-now 64 refl;
+      countsZero = zero-now 64 refl;
       aritiesZero = zero-now 2048 (c .0);
       startsZero = zero-now 2048 (c .1 .0);
       namesZero = zero-now 2048 (c .1 .1);
-      fieldsZero = zero-now 5120 (f .0);
-      labelsZero = zero-now 5120 (f .1);
-      nodesZero = zero-now 4160 (w .0);
-      leftZero = zero-now 4160 (w .1 .0);
-      rowsZero = zero-now 64 (w .1 .1);
+      fieldsZero = zero-now 5120 refl;
+      labelsZero = zero-now 5120 refl;
+      nodesZero = zero-now 4160 refl;
+      leftZero = zero-now 4160 refl;
+      rowsZero = zero-now 64 refl;
     })

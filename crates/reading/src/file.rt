@@ -2,9 +2,6 @@
 use crate::line::Step;
 use crate::line::enter_line;
 use clearing::clear_ctors;
-use clearing::clear_fields;
-use clearing::clear_rows;
-use clearing::clear_types;
 use hex::Line;
 use hex::read_line;
 use order::State;
@@ -143,9 +140,13 @@ pub fn read(
         return r;
     };
     *bytes = [0; 24576];
-    clear_types(kinds, counts);
+    *kinds = [0; 64];
+    *counts = [0; 64];
     clear_ctors(arities, starts, names);
-    clear_fields(fields, labels);
-    clear_rows(nodes, left, rows);
+    *fields = [0; 5120];
+    *labels = [0; 5120];
+    *nodes = [0; 4160];
+    *left = [0; 4160];
+    *rows = [0; 64];
     r
 }
