@@ -18,7 +18,7 @@ use Rattle.scope.specs.Blocks as scope
 use Rattle.scope.specs.Blocks.{Block, types, constructors, clauses, closed, ok, _>>=_, need, suited, nodesIn, isFresh, isSound, afterType, withTable, withRow, enter}
 use Rattle.table.proofs.FrameBytes.{type-read}
 use Rattle.layout.specs.Places.{labelled, reads}
-use Rattle.table.specs.Build.{EndsInData, low, typeArities, typeFields, WithType, flagAt, arityIn, isBare, fieldPlaces, labelsWith, WithCtor}
+use Rattle.table.specs.Build.{EndsInData, low, typeArities, typeFields, WithType, EntersType, flagAt, arityIn, isBare, fieldPlaces, labelsWith, WithCtor}
 use Rattle.table.proofs.Tables.{data-ends, added-ends}
 use Rattle.table.proofs.TypeMeans.{Room, type-holds}
 use Rattle.table.proofs.CtorMeans.{ctor-holds}
@@ -34,7 +34,7 @@ use Rattle.order.specs.Phases.{phaseOf}
 use Rattle.reading.specs.declared.line.Step.{Step}
 use Rattle.reading.specs.declared.line.Step.the-variants.{On, Refused}
 use Rattle.reading.specs.Said.{Held, held, Sized, InPhase, Rows, Says, Stepped, goes, stops}
-use Rattle.reading.specs.Enters.{EntersType, EntersCtor, stale, fresh, EntersSubject, unsound, sound, EntersClause, unsuited, over, row, Ended}
+use Rattle.reading.specs.Enters.{EntersCtor, stale, fresh, EntersSubject, unsound, sound, EntersClause, unsuited, over, row, Ended}
 
 -- no clause yet
 pub no-rows : (bytes nodes left rows : List ℕ) (count used : ℕ) (table : Table) → count ≡ 0 → used ≡ 0 → Rows bytes nodes left rows count used table []

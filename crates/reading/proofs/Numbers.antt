@@ -1,15 +1,11 @@
--- The numbers that a type's byte and a subject's give, and those of a clause that there is room for.
+-- What a subject's byte gives, and the nodes of a clause that there is room for.
 use mathlib.Core.Path.{_≡_, sym, ap, _∙_}
-use mathlib.Core.Bool.{Bool, false, not, cond}
+use mathlib.Core.Bool.{Bool, false, not}
 use mathlib.Core.List.{List}
 use Prim.Native.Nat.{ℕ, _+_, _≤_}
-use borrow.Author.Tests.{leb-true, not-false, eq-eqb, ne-eqb}
-use lib.Dec.{leb, eqb}
+use borrow.Author.Tests.{leb-true, not-false}
+use lib.Dec.{leb}
 use Rattle.sound.specs.Sound.{isSoundIn}
-
--- the number of the phase after a type frame
-pub type-phase-is : (k n : ℕ) → k ≡ n → (k ≡ 6 → _≡_ {A = ℕ} (cond (eqb n 6) 1 0) 1) × ((k ≡ 6 → ⊥) → _≡_ {A = ℕ} (cond (eqb n 6) 1 0) 0)
-type-phase-is k n e = (λ i. rw (eq-eqb n 6 (sym e ∙ i)), λ i. rw (ne-eqb n 6 (λ j. i (e ∙ j))))
 
 -- the subject's byte, widened
 pub subject-bit : (kinds counts arities starts fields : List ℕ) (used types t n : ℕ) {b : Bool} → t ≡ n → b ≡ isSoundIn kinds counts arities starts fields used types t → isSoundIn kinds counts arities starts fields used types n ≡ b

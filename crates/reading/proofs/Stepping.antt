@@ -11,6 +11,7 @@ use Rattle.scope.proofs.Tests.{clash, both}
 use Rattle.scope.specs.Frames.{Frame, isKind}
 use Rattle.scope.specs.Blocks as scope
 use Rattle.scope.specs.Blocks.{ok, refuse, enter, framed}
+use Rattle.table.specs.Build.{EntersType}
 use Rattle.patterns.specs.Rows.{Ready}
 use Rattle.order.specs.declared.State.{State}
 use Rattle.order.specs.Phases.{roomIn}
@@ -21,7 +22,7 @@ use Rattle.admitting.specs.declared.Kind as kind
 use Rattle.admitting.specs.Checked.{checked, kindOf}
 use Rattle.admitting.proofs.Checks.{begins}
 use Rattle.reading.specs.Said.{Held, held, Says, Stepped, stops}
-use Rattle.reading.specs.Enters.{EntersType, EntersCtor, EntersSubject, EntersClause, Ended}
+use Rattle.reading.specs.Enters.{EntersCtor, EntersSubject, EntersClause, Ended}
 use Rattle.reading.proofs.Framing.{Passed, passed, type-frame, constructor-frame, subject-frame, clause-frame, end-frame, byte-is, framed-is, above, some-type, last-is, sound-clause, sound-end}
 use Rattle.reading.proofs.Entering.{sound-parts, type-steps, ctor-steps, subject-steps, clause-steps, end-steps}
 

@@ -1,12 +1,12 @@
 -- What each frame does to the slices and the numbers.
 use mathlib.Core.Path.{_≡_}
-use mathlib.Core.Bool.{true, false, cond}
+use mathlib.Core.Bool.{true, false}
 use mathlib.Core.List.{List}
 use Prim.Native.Nat.{ℕ, _+_, _-_, _%_}
-use lib.ListN.{length, getD, set}
-use lib.Dec.{leb, eqb}
+use lib.ListN.{getD, set}
+use lib.Dec.{leb}
 use Rattle.scope.specs.Limits.{maxNodes}
-use Rattle.table.specs.Build.{typeFields, WithType, arityIn, WithCtor}
+use Rattle.table.specs.Build.{arityIn, WithCtor}
 use Rattle.fresh.specs.Fresh.{isFreshIn}
 use Rattle.sound.specs.Sound.{isSoundIn}
 use Rattle.patterns.specs.Rows.{Simplifies}
@@ -15,11 +15,6 @@ use Rattle.order.specs.declared.State.{State}
 use Rattle.order.specs.Phases.{Numbers}
 use Rattle.reading.specs.declared.line.Step.{Step}
 use Rattle.reading.specs.declared.line.Step.the-variants.{On, Refused}
-
--- one more type; its kind says which phase is next
-pub record EntersType (bytes : List ℕ) (at : ℕ) (s : State) (kinds counts arities starts fields kinds′ counts′ arities′ starts′ fields′ : List ℕ) (r : State) : Type 0 where
-  pub numbers : Numbers r (cond (eqb (getD bytes at 0) 6) 1 0) (s .types + 1) (s .ctors) (s .fields + length (typeFields bytes at (s .types))) 0
-  pub with : WithType bytes at (s .types) (s .fields) kinds counts arities starts fields kinds′ counts′ arities′ starts′ fields′
 
 -- one more constructor of the data type just above, or 7
 pub data EntersCtor (bytes : List ℕ) (at : ℕ) (s : State) (counts arities starts names fields labels counts′ arities′ starts′ names′ fields′ labels′ : List ℕ) : Step → Type 0 where

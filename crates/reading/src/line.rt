@@ -9,7 +9,6 @@ use order::has_nodes;
 use patterns::Simplified;
 use patterns::simplify;
 use sound::is_sound;
-use table::Sizes;
 use table::add_ctor;
 use table::add_type;
 ghost use mathlib.Core.Path.{_≡_};
@@ -20,110 +19,11 @@ ghost use lib.ListN.{length, getD, drop};
 ghost use Rattle.scope.specs.Blocks as scope;
 ghost use Rattle.scope.specs.Blocks.{framed};
 ghost use Rattle.reading.specs.Said.{held, Known, Says, Stepped};
-ghost use Rattle.reading.specs.Enters.{EntersType, EntersCtor, EntersSubject, EntersClause, Ended};
+ghost use Rattle.reading.specs.Enters.{EntersSubject, EntersClause, Ended};
 
 pub enum Step {
     On(State),
     Refused(u8),
-}
-
-// 01 type.
-fn enter_type(
-    bytes: &[u8],
-    at: usize,
-    s: State,
-    kinds: &mut [u8; 64],
-    counts: &mut [u8; 64],
-    arities: &mut [u8; 2048],
-    starts: &mut [u16; 2048],
-    fields: &mut [u8; 5120],
-) -> State
-    requires { ⌜ at < 2 ^ 32 ⌝ }
-    requires { ⌜ s .types < 64 ⌝ }
-    requires { ⌜ s .fields < 2 ^ 32 ⌝ }
-    ensures { λ r. ⌜ EntersType (now (bytes .entry)) at s (now (kinds .entry)) (now (counts .entry)) (now (arities .entry)) (now (starts .entry)) (now (fields .entry)) (now (kinds .exit)) (now (counts .exit)) (now (arities .exit)) (now (starts .exit)) (now (fields .exit)) r ⌝ }
-{
-    let sizes = Sizes {
-        types: s.types,
-        ctors: s.ctors,
-        fields: s.fields,
-    };
-    let next = add_type(bytes, at, sizes, kinds, counts, arities, starts, fields);
-    let kind = at8(bytes, at);
-    if kind == 6 {
-        return State {
-            phase: 1,
-            types: next.types,
-            ctors: next.ctors,
-            fields: next.fields,
-            subject: 0,
-            clauses: 0,
-            used: 0,
-            count: 0,
-        };
-    }
-    State {
-        phase: 0,
-        types: next.types,
-        ctors: next.ctors,
-        fields: next.fields,
-        subject: 0,
-        clauses: 0,
-        used: 0,
-        count: 0,
-    }
-}
-
-// 02 constructor.
-fn enter_ctor(
-    bytes: &[u8],
-    at: usize,
-    s: State,
-    counts: &mut [u8; 64],
-    arities: &mut [u8; 2048],
-    starts: &mut [u16; 2048],
-    names: &mut [u16; 2048],
-    fields: &mut [u8; 5120],
-    labels: &mut [u16; 5120],
-) -> Step
-    requires { ⌜ at < 2 ^ 32 ⌝ }
-    requires { ⌜ 0 < s .types ⌝ }
-    requires { ⌜ s .types ≤ 64 ⌝ }
-    requires { ⌜ s .ctors < 2 ^ 32 ⌝ }
-    requires { ⌜ s .fields < 2 ^ 32 ⌝ }
-    requires { ⌜ getD (now counts) (s .types - 1) 0 < 32 ⌝ }
-    ensures { λ r. ⌜ EntersCtor (now (bytes .entry)) at s (now (counts .entry)) (now (arities .entry)) (now (starts .entry)) (now (names .entry)) (now (fields .entry)) (now (labels .entry)) (now (counts .exit)) (now (arities .exit)) (now (starts .exit)) (now (names .exit)) (now (fields .exit)) (now (labels .exit)) r ⌝ }
-{
-    let t = s.types - 1;
-    if !is_fresh(bytes, at, names, counts, t) {
-        return Step::Refused(7);
-    }
-    let sizes = Sizes {
-        types: s.types,
-        ctors: s.ctors,
-        fields: s.fields,
-    };
-    let next = add_ctor(
-        bytes,
-        at,
-        sizes,
-        counts,
-        arities,
-        starts,
-        names,
-        fields,
-        labels,
-    );
-    Step::On(State {
-        phase: 1,
-        types: next.types,
-        ctors: next.ctors,
-        fields: next.fields,
-        subject: 0,
-        clauses: 0,
-        used: 0,
-        count: 0,
-    })
 }
 
 // 03 subject.
@@ -263,48 +163,64 @@ pub fn enter_line(
     requires { ⌜ length (now bytes) ≤ at + 640 ⌝ }
     ensures { λ r. ⌜ ((σ : scope.State) → Says (held (now (bytes .entry)) (now (kinds .entry)) (now (counts .entry)) (now (arities .entry)) (now (starts .entry)) (now (names .entry)) (now (fields .entry)) (now (labels .entry)) (now (nodes .entry)) (now (left .entry)) (now (rows .entry))) s σ → Stepped (held (now (bytes .entry)) (now (kinds .exit)) (now (counts .exit)) (now (arities .exit)) (now (starts .exit)) (now (names .exit)) (now (fields .exit)) (now (labels .exit)) (now (nodes .exit)) (now (left .exit)) (now (rows .exit))) r (framed σ (drop at (now (bytes .entry))))) ⌝ }
 {
-    let last = last_ctors(counts, s.types);
-    let k = kind_of(bytes, at, s, last);
+    let k = kind_of(bytes, at, s, last_ctors(counts, s.types));
     match k {
-        Kind::Refused(n) => Step::Refused(n),
+        Kind::Refused(n) => {
+            return Step::Refused(n);
+        }
         Kind::Is(kind) => {
             let from = at + 1;
-            if kind == 1 {
-                let next = enter_type(bytes, from, s, kinds, counts, arities, starts, fields);
-                return Step::On(next);
+            match kind {
+                1 => {
+                    return Step::On(add_type(
+                        bytes,
+                        from,
+                        s,
+                        kinds,
+                        counts,
+                        arities,
+                        starts,
+                        fields,
+                    ));
+                }
+                2 => {
+                    if is_fresh(bytes, from, names, counts, s.types - 1) {
+                        return Step::On(add_ctor(
+                            bytes,
+                            from,
+                            s,
+                            counts,
+                            arities,
+                            starts,
+                            names,
+                            fields,
+                            labels,
+                        ));
+                    }
+                    return Step::Refused(7);
+                }
+                3 => {
+                    return enter_subject(bytes, from, s, kinds, counts, arities, starts, fields);
+                }
+                4 => {
+                    return enter_clause(
+                        bytes,
+                        from,
+                        s,
+                        kinds,
+                        counts,
+                        arities,
+                        starts,
+                        fields,
+                        nodes,
+                        left,
+                        rows,
+                    );
+                }
+                _ => {
+                    return Step::On(enter_end(s));
+                }
             }
-            if kind == 2 {
-                return enter_ctor(
-                    bytes,
-                    from,
-                    s,
-                    counts,
-                    arities,
-                    starts,
-                    names,
-                    fields,
-                    labels,
-                );
-            }
-            if kind == 3 {
-                return enter_subject(bytes, from, s, kinds, counts, arities, starts, fields);
-            }
-            if kind == 4 {
-                return enter_clause(
-                    bytes,
-                    from,
-                    s,
-                    kinds,
-                    counts,
-                    arities,
-                    starts,
-                    fields,
-                    nodes,
-                    left,
-                    rows,
-                );
-            }
-            Step::On(enter_end(s))
         }
     }
 }

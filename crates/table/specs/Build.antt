@@ -8,6 +8,8 @@ use lib.Seq.{sets}
 use lib.Dec.{eqb}
 use Rattle.scope.specs.Types.{Ctor, dat, Table, builtIns}
 use Rattle.layout.specs.Places.{places, labelled, reads}
+use Rattle.order.specs.declared.State.{State}
+use Rattle.order.specs.Phases.{Numbers}
 
 -- a number as 16 bits hold it
 abbrev pub low : ℕ → ℕ
@@ -36,6 +38,11 @@ pub record HasCtors (t used : ℕ) (ns fs counts arities starts fields counts′
 pub record WithType (bytes : List ℕ) (at t used : ℕ) (kinds counts arities starts fields kinds′ counts′ arities′ starts′ fields′ : List ℕ) : Type 0 where
   pub kindsAre : kinds′ ≡ set kinds t (getD bytes at 0)
   pub ctorsAre : HasCtors t used (typeArities bytes at) (typeFields bytes at t) counts arities starts fields counts′ arities′ starts′ fields′
+
+-- one more type and the numbers after it; its kind says which phase is next
+pub record EntersType (bytes : List ℕ) (at : ℕ) (s : State) (kinds counts arities starts fields kinds′ counts′ arities′ starts′ fields′ : List ℕ) (r : State) : Type 0 where
+  pub numbers : Numbers r (cond (eqb (getD bytes at 0) 6) 1 0) (s .types + 1) (s .ctors) (s .fields + length (typeFields bytes at (s .types))) 0
+  pub with : WithType bytes at (s .types) (s .fields) kinds counts arities starts fields kinds′ counts′ arities′ starts′ fields′
 
 -- where the labels' flag stands after a name
 abbrev pub flagAt : List ℕ → ℕ → ℕ

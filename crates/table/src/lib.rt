@@ -4,19 +4,17 @@ use cells::put8;
 use cells::put16;
 use cells::wide8;
 use layout::after_name;
+use order::State;
 ghost use mathlib.Core.Path.{_≡_};
 ghost use mathlib.Core.List.{map};
-ghost use Prim.Native.Nat.{_+_, _-_, _*_, _<_, _≤_, _^_};
-ghost use lib.ListN.{length, getD, set, replicate};
+ghost use mathlib.Core.Bool.{cond};
+ghost use Prim.Native.Nat.{_+_, _-_, _<_, _≤_, _^_};
+ghost use lib.Dec.{eqb};
+ghost use lib.ListN.{length, getD, replicate};
 ghost use lib.Seq.{sets};
 ghost use Rattle.layout.specs.Places.{places, labelled, reads};
-ghost use Rattle.table.specs.Build.{low, typeArities, typeFields, WithType, flagAt, arityIn, fieldPlaces, labelsWith, WithCtor};
-
-pub struct Sizes {
-    pub types: usize,
-    pub ctors: usize,
-    pub fields: usize,
-}
+ghost use Rattle.order.specs.Phases.{Numbers};
+ghost use Rattle.table.specs.Build.{low, typeArities, typeFields, EntersType, flagAt, arityIn, fieldPlaces, labelsWith, WithCtor};
 
 // The arities of the built-in constructors of a list: "::" with 2, "[]" with 0.
 pub const BUILT_IN: [u8; 2] = [2, 0];
@@ -96,36 +94,59 @@ fn put_starts(starts: &mut [u16], i: usize, n: usize, from: usize)
     }
 }
 
+// The numbers after a type whose fields end at `end`; only a data type's constructors may follow.
+fn after_type(s: State, kind: u8, end: usize) -> State
+    requires { ⌜ s .types < 64 ⌝ }
+    ensures { λ r. ⌜ Numbers r (cond (eqb kind 6) 1 0) (s .types + 1) (s .ctors) end 0 ⌝ }
+{
+    if kind == 6 {
+        return State {
+            phase: 1,
+            types: s.types + 1,
+            ctors: s.ctors,
+            fields: end,
+            subject: 0,
+            clauses: 0,
+            used: 0,
+            count: 0,
+        };
+    }
+    State {
+        phase: 0,
+        types: s.types + 1,
+        ctors: s.ctors,
+        fields: end,
+        subject: 0,
+        clauses: 0,
+        used: 0,
+        count: 0,
+    }
+}
+
 // One more type: its frame's bytes from the kind of type on.
 pub fn add_type(
     bytes: &[u8],
     at: usize,
-    s: Sizes,
-    kinds: &mut [u8],
-    counts: &mut [u8],
-    arities: &mut [u8],
-    starts: &mut [u16],
-    fields: &mut [u8],
-) -> Sizes
+    s: State,
+    kinds: &mut [u8; 64],
+    counts: &mut [u8; 64],
+    arities: &mut [u8; 2048],
+    starts: &mut [u16; 2048],
+    fields: &mut [u8; 5120],
+) -> State
     requires { ⌜ at < 2 ^ 32 ⌝ }
     requires { ⌜ s .types < 64 ⌝ }
     requires { ⌜ s .fields < 2 ^ 32 ⌝ }
-    ensures { λ r. ⌜ r .types ≡ s .types + 1 ⌝ }
-    ensures { λ r. ⌜ r .ctors ≡ s .ctors ⌝ }
-    ensures { λ r. ⌜ r .fields ≡ s .fields + length (typeFields (now (bytes .entry)) at (s .types)) ⌝ }
-    ensures { λ _. ⌜ WithType (now (bytes .entry)) at (s .types) (s .fields) (now (kinds .entry)) (now (counts .entry)) (now (arities .entry)) (now (starts .entry)) (now (fields .entry)) (now (kinds .exit)) (now (counts .exit)) (now (arities .exit)) (now (starts .exit)) (now (fields .exit)) ⌝ }
+    ensures { λ r. ⌜ EntersType (now (bytes .entry)) at s (now (kinds .entry)) (now (counts .entry)) (now (arities .entry)) (now (starts .entry)) (now (fields .entry)) (now (kinds .exit)) (now (counts .exit)) (now (arities .exit)) (now (starts .exit)) (now (fields .exit)) r ⌝ }
 {
     let t = s.types;
-    put8(kinds, t, at8(bytes, at));
+    let kind = at8(bytes, at);
+    kinds[t] = kind;
     let n = put_arities(bytes, at, arities, 32 * t);
-    put8(counts, t, n);
+    counts[t] = n;
     put_starts(starts, 32 * t, wide8(n), s.fields);
     let end = put_types(bytes, at, t, fields, s.fields);
-    Sizes {
-        types: t + 1,
-        ctors: s.ctors,
-        fields: end,
-    }
+    after_type(s, kind, end)
 }
 
 // n fields with labels, from `at` on: their types, written to `fields` from `from` on, and the places of their labels, to `labels`.
@@ -173,67 +194,53 @@ fn put_parts(bytes: &[u8], at: usize, fields: &mut [u8], labels: &mut [u16], fro
     n
 }
 
-// One more constructor of the type t is counted; its number.
-fn count_ctor(counts: &mut [u8], t: usize) -> usize
-    requires { ⌜ t < 64 ⌝ }
-    requires { ⌜ getD (now counts) t 0 < 32 ⌝ }
-    ensures { λ r. ⌜ r ≡ 32 * t + getD (now (counts .entry)) t 0 ⌝ }
-    ensures { λ _. ⌜ now (counts .exit) ≡ set (now (counts .entry)) t (getD (now (counts .entry)) t 0 + 1) ⌝ }
+// The numbers after a constructor with n fields.
+fn after_ctor(s: State, n: usize) -> State
+    requires { ⌜ s .ctors < 2 ^ 32 ⌝ }
+    requires { ⌜ s .fields < 2 ^ 32 ⌝ }
+    requires { ⌜ n < 256 ⌝ }
+    ensures { λ r. ⌜ Numbers r 1 (s .types) (s .ctors + 1) (s .fields + n) 0 ⌝ }
 {
-    let c = at8(counts, t);
-    put8(counts, t, c + 1);
-    32 * t + wide8(c)
-}
-
-// Constructor number i has this arity, its fields stand from `from` on, and its name stands at `at`.
-fn put_ctor(
-    arities: &mut [u8],
-    starts: &mut [u16],
-    names: &mut [u16],
-    i: usize,
-    arity: u8,
-    from: usize,
-    at: usize,
-)
-    requires { ⌜ i < 2 ^ 63 ⌝ }
-    ensures { λ _. ⌜ now (arities .exit) ≡ set (now (arities .entry)) i arity ⌝ }
-    ensures { λ _. ⌜ now (starts .exit) ≡ set (now (starts .entry)) i (low from) ⌝ }
-    ensures { λ _. ⌜ now (names .exit) ≡ set (now (names .entry)) i (low at) ⌝ }
-{
-    put8(arities, i, arity);
-    put16(starts, i, (from % 65536) as u16);
-    put16(names, i, (at % 65536) as u16);
+    State {
+        phase: 1,
+        types: s.types,
+        ctors: s.ctors + 1,
+        fields: s.fields + n,
+        subject: 0,
+        clauses: 0,
+        used: 0,
+        count: 0,
+    }
 }
 
 // One more constructor of the last type: its frame's bytes from the name's length on.
 pub fn add_ctor(
     bytes: &[u8],
     at: usize,
-    s: Sizes,
-    counts: &mut [u8],
-    arities: &mut [u8],
-    starts: &mut [u16],
-    names: &mut [u16],
-    fields: &mut [u8],
-    labels: &mut [u16],
-) -> Sizes
+    s: State,
+    counts: &mut [u8; 64],
+    arities: &mut [u8; 2048],
+    starts: &mut [u16; 2048],
+    names: &mut [u16; 2048],
+    fields: &mut [u8; 5120],
+    labels: &mut [u16; 5120],
+) -> State
     requires { ⌜ at < 2 ^ 32 ⌝ }
     requires { ⌜ 0 < s .types ⌝ }
     requires { ⌜ s .types ≤ 64 ⌝ }
     requires { ⌜ s .ctors < 2 ^ 32 ⌝ }
     requires { ⌜ s .fields < 2 ^ 32 ⌝ }
     requires { ⌜ getD (now counts) (s .types - 1) 0 < 32 ⌝ }
-    ensures { λ r. ⌜ r .types ≡ s .types ⌝ }
-    ensures { λ r. ⌜ r .ctors ≡ s .ctors + 1 ⌝ }
-    ensures { λ r. ⌜ r .fields ≡ s .fields + arityIn (now (bytes .entry)) at ⌝ }
+    ensures { λ r. ⌜ Numbers r 1 (s .types) (s .ctors + 1) (s .fields + arityIn (now (bytes .entry)) at) 0 ⌝ }
     ensures { λ _. ⌜ WithCtor (now (bytes .entry)) at (s .types - 1) (s .fields) (now (counts .entry)) (now (arities .entry)) (now (starts .entry)) (now (names .entry)) (now (fields .entry)) (now (labels .entry)) (now (counts .exit)) (now (arities .exit)) (now (starts .exit)) (now (names .exit)) (now (fields .exit)) (now (labels .exit)) ⌝ }
 {
-    let i = count_ctor(counts, s.types - 1);
+    let t = s.types - 1;
+    let c = counts[t];
+    counts[t] = c + 1;
     let n = put_parts(bytes, at, fields, labels, s.fields);
-    put_ctor(arities, starts, names, i, n, s.fields, at);
-    Sizes {
-        types: s.types,
-        ctors: s.ctors + 1,
-        fields: s.fields + wide8(n),
-    }
+    let i = 32 * t + wide8(c);
+    arities[i] = n;
+    starts[i] = (s.fields % 65536) as u16;
+    names[i] = (at % 65536) as u16;
+    after_ctor(s, wide8(n))
 }

@@ -1,86 +1,92 @@
 -- `table::add_ctor` meets its contract, from its stores.
 use mathlib.Core.Path.{refl, ap, _∙_}
-use Prim.Native.Nat.{_+_, _-_}
+use Prim.Native.Nat.{_+_, _-_, _*_}
 use native.Mathlib.Omega.{arith}
-use Rattle.table.proofs.Stores.{ctor-stored}
+use lib.ListN.{getD, set}
+use Rattle.table.specs.Build.{low}
 use Rattle.table.proofs.add_ctor.Statement.{statement}
 use Rattle.table.proofs.add_ctor.Tie as tie
 
-sub-count-ctor : tie.Need-sub-count-ctor
-sub-count-ctor c =
-    c .before .before .before .before .before .before .before .before .before .pre .1 .0
+sub-t : tie.Need-sub-t
+sub-t c = omega (arith, c .before .before .pre)
 
-count-ctor-requires : tie.Need-count-ctor-requires
-count-ctor-requires c κs =
-    omega (arith, c .before .before .before .before .before .before .before .before .before .pre)
+element-copy-out-c : tie.Need-element-copy-out-c
+element-copy-out-c c = omega (arith, c .before .before .pre)
+
+add-counts : tie.Need-add-counts
+add-counts c = omega (arith, c .before .before .before .pre)
+
+element-write-counts : tie.Need-element-write-counts
+element-write-counts c = omega (arith, c .before .before .before .pre)
 
 put-parts-requires : tie.Need-put-parts-requires
-put-parts-requires c κs =
-    omega (arith, c .before .before .before .before .before .before .before .before .before .before .before .before .before .before .pre)
+put-parts-requires c κs = omega (arith, c .before .before .before .before .before .pre)
 
-put-ctor-requires : tie.Need-put-ctor-requires
-put-ctor-requires c κs =
-    omega (arith, c .before .before .before .before .before .before .before .before .before .before .before .before .before .before .before .before .before .before .before .before .before .before .pre, c .before .before .before .before .before .before .before .before .before .before .before .before .count-ctor .ensures .0)
-
-add-t14 : tie.Need-add-t14
-add-t14 c =
-    omega (arith, c .before .before .before .before .before .before .before .before .before .before .before .before .before .before .before .before .before .before .before .before .before .before .before .before .before .before .before .before .before .before .pre)
+mul-i : tie.Need-mul-i
+mul-i c = omega (arith, c .before .before .before .before .before .before .pre)
 
 wide8-requires : tie.Need-wide8-requires
-wide8-requires c κs =
-    tt
+wide8-requires c κs = tt
 
-add-t27 : tie.Need-add-t27
-add-t27 c =
-    omega (arith, c .before .before .before .before .before .before .before .before .before .before .before .before .before .before .before .before .before .before .before .before .before .before .before .before .before .before .before .before .before .before .before .before .pre, c .before .wide8 .ensures, c .before .before .before .before .before .before .before .before .before .before .before .before .before .before .before .before .before .put-parts .ok)
+add-i : tie.Need-add-i
+add-i c = omega (arith, c .before .before .before .before .before .before .before .pre, c .wide8 .ensures)
 
-same-length : tie.Need-same-length
-same-length c =
-    c .before .before .before .before .before .before .before .before .before .before .before .before .before .before .before .before .before .before .before .before .before .before .count-ctor .kept .0
+element-write-arities : tie.Need-element-write-arities
+element-write-arities c = omega (arith, c .before .before .before .before .before .before .before .pre, c .wide8 .ensures)
 
-same-length-2 : tie.Need-same-length-2
-same-length-2 c =
-    c .before .before .before .before .before .before .before .before .before .put-ctor .kept .0
+cast-starts : tie.Need-cast-starts
+cast-starts c = omega (arith, c .before .before .before .before .before .before .before .before .pre)
 
-same-length-3 : tie.Need-same-length-3
-same-length-3 c =
-    c .before .before .before .before .before .before .before .before .before .put-ctor .kept .1 .0
+mul-starts : tie.Need-mul-starts
+mul-starts c = omega (arith, c .before .before .before .before .before .before .before .before .pre, c .before .wide8 .ensures)
 
-same-length-4 : tie.Need-same-length-4
-same-length-4 c =
-    c .before .before .before .before .before .before .before .before .before .put-ctor .kept .1 .1 .0
+element-write-starts : tie.Need-element-write-starts
+element-write-starts c = omega (arith, c .before .before .before .before .before .before .before .before .pre, c .before .wide8 .ensures)
 
-same-length-5 : tie.Need-same-length-5
-same-length-5 c =
-    c .before .before .before .before .before .before .before .before .before .before .before .before .before .before .before .before .before .put-parts .kept .1 .1 .0
+cast-names : tie.Need-cast-names
+cast-names c = omega (arith, c .before .before .before .before .before .before .before .before .pre)
 
-same-length-6 : tie.Need-same-length-6
-same-length-6 c =
-    c .before .before .before .before .before .before .before .before .before .before .before .before .before .before .before .before .before .put-parts .kept .1 .1 .1 .0
+mul-names : tie.Need-mul-names
+mul-names c = omega (arith, c .before .before .before .before .before .before .before .before .pre, c .before .wide8 .ensures)
+
+element-write-names : tie.Need-element-write-names
+element-write-names c = omega (arith, c .before .before .before .before .before .before .before .before .pre, c .before .wide8 .ensures)
+
+wide8-requires-2 : tie.Need-wide8-requires-2
+wide8-requires-2 c κs = tt
+
+after-ctor-requires : tie.Need-after-ctor-requires
+after-ctor-requires c κs = omega (arith, c .before .before .before .before .before .before .before .before .before .pre, c .wide82 .ensures, c .before .before .before .put-parts .ok)
 
 returns : tie.Need-returns
 returns c =
-    let a = c .before .before .before .before .before .before .before .before .before .before .before .before .before .before .before .before .before .before .before .before .before .before .before .before .before .before .before .before .before .before .before .before .args in
-    let n = c .before .before .before .before .before .before .before .before .before .before .before .before .before .before .before .before .before .before .before .before .before .before .count-ctor in
-    let p = c .before .before .before .before .before .before .before .before .before .before .before .before .before .before .before .before .before .put-parts in
-    let q = c .before .before .before .before .before .before .before .before .before .put-ctor in
-    (refl, (refl, (ap (λ k. a .s .fields + k) (c .before .wide8 .ensures ∙ p .ensures .0), ctor-stored (a .bytes .now) (a .counts .now) (a .arities .now) (a .starts .now) (a .names .now) (a .fields .now) (a .labels .now) (n .last .0) (q .last .0) (q .last .1 .0) (q .last .1 .1 .0) (p .last .1 .1 .0) (p .last .1 .1 .1 .0) (a .at) (a .s .types - 1) (a .s .fields) (n .result) (p .result) (n .ensures .0) (p .ensures .0) (n .ensures .1) (q .ensures .0) (q .ensures .1 .0) (q .ensures .1 .1) (p .ensures .1 .0) (p .ensures .1 .1))))
+    let a = c .before .before .before .before .before .before .before .before .before .before .args in
+    let t = a .s .types - 1 in
+    let i = 32 * t + getD (a .counts .now) t 0 in
+    let n = c .after-ctor .ensures in
+    let put-parts = c .before .before .before .before .put-parts in
+    let place = c .before .before .before .wide8 .ensures in
+    (record { phaseIs = n .phaseIs; typesAre = n .typesAre; ctorsAre = n .ctorsAre; fieldsAre = n .fieldsAre ∙ ap (λ m. a .s .fields + m) (c .before .wide82 .ensures ∙ put-parts .ensures .0); subjectIs = n .subjectIs; clausesAre = n .clausesAre; usedIs = n .usedIs; countIs = n .countIs }, record { countsAre = refl; aritiesAre = ap (λ j. set (a .arities .now) (32 * t + j) (put-parts .result)) place ∙ ap (set (a .arities .now) i) (put-parts .ensures .0); startsAre = ap (λ j. set (a .starts .now) (32 * t + j) (low (a .s .fields))) place; namesAre = ap (λ j. set (a .names .now) (32 * t + j) (low (a .at))) place; fieldsAre = put-parts .ensures .1 .0; labelsAre = put-parts .ensures .1 .1 })
 
 pub add-ctor-spec : {M : Type 1} → statement M
 add-ctor-spec =
     tie.close
     (tie.spec
-    sub-count-ctor
-    count-ctor-requires
+    sub-t
+    element-copy-out-c
+    add-counts
+    element-write-counts
     put-parts-requires
-    put-ctor-requires
-    add-t14
+    mul-i
     wide8-requires
-    add-t27
-    same-length
-    same-length-2
-    same-length-3
-    same-length-4
-    same-length-5
-    same-length-6
+    add-i
+    element-write-arities
+    cast-starts
+    mul-starts
+    element-write-starts
+    cast-names
+    mul-names
+    element-write-names
+    wide8-requires-2
+    after-ctor-requires
     returns)
