@@ -1,90 +1,79 @@
--- One pattern's bytes and one type: each arm of `suits`, `filled` and `args` gives what its definition says there.
+-- One pattern's bytes and one type: each way of `suits` gives what its definition says there.
 use mathlib.Core.Path.{_≡_, refl}
-use mathlib.Core.Bool.{Bool, true, false}
+use mathlib.Core.Bool.{Bool, true, false, _&&_, _||_}
 use mathlib.Core.List.{List}
 use Prim.Native.Nat.{ℕ, zero, suc, _+_, _*_, _-_, _≤_, _<_}
 use native.Mathlib.Omega.{arith}
 use lib.ListN.{getD}
-use lib.Dec.{eqb}
-use borrow.Author.Tests.{lt-ltb, le-ltb, le-leb, lt-leb, eq-eqb, ne-eqb}
+use lib.Dec.{leb, eqb}
+use borrow.Author.Tests.{lt-ltb, le-ltb}
 use Rattle.nodes.specs.Keys.{low16, literalKey}
-use Rattle.suits.specs.Suits.{onKind, filledBy, argsOf, suitAt}
+use Rattle.rules.specs.Kinds.{suitsKind}
+use Rattle.suits.specs.Suits.{filledBy, argsOf, formOf, suitAt}
 use Rattle.suits.specs.declared.Suit.{Suit}
 use Rattle.suits.specs.declared.Suit.the-variants.{Leaf, Again, Cells, Args, Unfit}
 
--- a byte that is none of 0 to 5
-pub past-five : (w : ℕ) → (w ≡ 0 → ⊥) → (w ≡ 1 → ⊥) → (w ≡ 2 → ⊥) → (w ≡ 3 → ⊥) → (w ≡ 4 → ⊥) → (w ≡ 5 → ⊥) → (x : ℕ) × (w ≡ 6 + x)
-past-five zero a b c d e f = absurd (a refl)
-past-five (suc zero) a b c d e f = absurd (b refl)
-past-five (suc (suc zero)) a b c d e f = absurd (c refl)
-past-five (suc (suc (suc zero))) a b c d e f = absurd (d refl)
-past-five (suc (suc (suc (suc zero)))) a b c d e f = absurd (e refl)
-past-five (suc (suc (suc (suc (suc zero))))) a b c d e f = absurd (f refl)
-past-five (suc (suc (suc (suc (suc (suc x)))))) a b c d e f = (x, omega arith)
+module _ (bytes counts arities : List ℕ) (at t : ℕ) where
+  abbrev Is : ℕ → Suit → Type 0
+  Is w r = r ≡ formOf bytes at counts arities t w
 
--- nor 6 and 7
-pub past-seven : (w x : ℕ) → w ≡ 6 + x → (w ≡ 6 → ⊥) → (w ≡ 7 → ⊥) → (y : ℕ) × (w ≡ suc (suc (suc (suc (suc (suc (suc (suc y))))))))
-past-seven w x e a b = (w - 8, omega arith)
+  pub is-wild : (w : ℕ) → w < 2 → Is w (Leaf 0)
+  unfolding formOf
+  is-wild zero h = refl
+  is-wild (suc zero) h = refl
+  is-wild (suc (suc w)) h = absurd (omega arith)
 
-module _ (bytes kinds counts arities : List ℕ) (at t w k : ℕ) (wIs : w ≡ getD bytes at 0) (kIs : k ≡ getD kinds t 0) where
-  abbrev Is : Suit → Type 0
-  Is r = r ≡ suitAt bytes at kinds counts arities t
+  pub is-assign : (w : ℕ) → w ≡ 2 → Is w Again
+  unfolding formOf
+  is-assign w e = rw e
 
-  pub is-discard : w ≡ 0 → Is (Leaf 0)
+  pub is-literal : (w n : ℕ) → 2 ≤ w → (w ≡ 2 → ⊥) → w < 5 → n ≡ low16 (literalKey at) → Is w (Leaf n)
+  unfolding formOf
+  is-literal w n a b c e = let n′ : n ≡ literalKey at = omega arith in rw n′ (go w a b c)
+    where
+      go : (w : ℕ) → 2 ≤ w → (w ≡ 2 → ⊥) → w < 5 → Is w (Leaf (literalKey at))
+      go zero a b c = absurd (omega arith)
+      go (suc zero) a b c = absurd (omega arith)
+      go (suc (suc zero)) a b c = absurd (b refl)
+      go (suc (suc (suc zero))) a b c = refl
+      go (suc (suc (suc (suc zero)))) a b c = refl
+      go (suc (suc (suc (suc (suc w))))) a b c = absurd (omega arith)
+
+  pub is-pair : (w : ℕ) (s : Suit) → w ≡ 7 → s ≡ argsOf counts arities t 0 2 false → Is w s
+  unfolding formOf
+  is-pair w s e i = rw e i
+
+  pub is-tuple : (w a : ℕ) (s : Suit) → 7 < w → a ≡ getD bytes (at + 1) 0 → s ≡ argsOf counts arities t 0 a false → Is w s
+  unfolding formOf
+  is-tuple w a s h aIs i = let e : w ≡ suc (suc (suc (suc (suc (suc (suc (suc (w - 8)))))))) = omega arith in rw (e, ← aIs) i
+
+  pub is-list : (w a b : ℕ) → w ≡ 5 → a ≡ getD bytes (at + 1) 0 → b ≡ getD bytes (at + 2) 0 → Is w (Cells a (eqb b 1))
+  unfolding formOf
+  is-list w a b e aIs bIs = rw (e, ← aIs, ← bIs)
+
+  pub is-ctor : (w a b f : ℕ) (s : Suit) → 5 ≤ w → (w ≡ 5 → ⊥) → (w ≡ 7 → ⊥) → w ≤ 7 → a ≡ getD bytes (at + 1) 0 → b ≡ getD bytes (at + 2) 0 → f ≡ getD bytes (at + 3) 0 → s ≡ argsOf counts arities t a b (eqb f 1) → Is w s
+  unfolding formOf
+  is-ctor w a b f s l m n o aIs bIs fIs i = let e : w ≡ 6 = omega (arith, m, n) in rw (e, ← aIs, ← bIs, ← fIs) i
+
+module _ (bytes kinds counts arities : List ℕ) (at t w k : ℕ) (ok : Bool) (wIs : w ≡ getD bytes at 0) (kIs : k ≡ getD kinds t 0) (okIs : ok ≡ suitsKind w k) where
+  -- the type is of another kind
+  pub is-unfit : ok ≡ false → Unfit ≡ suitAt bytes at kinds counts arities t
   unfolding suitAt
-  is-discard e = rw (← wIs, e)
+  is-unfit e = rw (← wIs, ← kIs, ← okIs, e)
 
-  pub is-variable : w ≡ 1 → Is (Leaf 0)
+  pub is-fit : (r : Suit) → ok ≡ true → r ≡ formOf bytes at counts arities t w → r ≡ suitAt bytes at kinds counts arities t
   unfolding suitAt
-  is-variable e = rw (← wIs, e)
+  is-fit r e h = rw (← wIs, ← kIs, ← okIs, e) h
 
-  pub is-assign : w ≡ 2 → Is Again
-  unfolding suitAt
-  is-assign e = rw (← wIs, e)
-
-  pub is-number : (lit : ℕ) (r : Suit) → w ≡ 3 → lit ≡ low16 (literalKey at) → r ≡ onKind (eqb k 0) (Leaf lit) → Is r
-  unfolding suitAt
-  is-number lit r e l h = let l′ : lit ≡ literalKey at = omega arith in rw (← wIs, e, ← kIs, ← l′) h
-
-  pub is-string : (lit : ℕ) (r : Suit) → w ≡ 4 → lit ≡ low16 (literalKey at) → r ≡ onKind (eqb k 1) (Leaf lit) → Is r
-  unfolding suitAt
-  is-string lit r e l h = let l′ : lit ≡ literalKey at = omega arith in rw (← wIs, e, ← kIs, ← l′) h
-
-  pub is-list : (a b : ℕ) (r : Suit) → w ≡ 5 → a ≡ getD bytes (at + 1) 0 → b ≡ getD bytes (at + 2) 0 → r ≡ onKind (eqb k 3) (Cells a (eqb b 1)) → Is r
-  unfolding suitAt
-  is-list a b r e aIs bIs h = rw (← wIs, e, ← kIs, ← aIs, ← bIs) h
-
-  pub is-ctor : (a b f : ℕ) (s r : Suit) → w ≡ 6 → a ≡ getD bytes (at + 1) 0 → b ≡ getD bytes (at + 2) 0 → f ≡ getD bytes (at + 3) 0 → s ≡ argsOf counts arities t a b (eqb f 1) → r ≡ onKind (eqb k 6) s → Is r
-  unfolding suitAt
-  is-ctor a b f s r e aIs bIs fIs i h = rw (← wIs, e, ← kIs, ← aIs, ← bIs, ← fIs, ← i) h
-
-  pub is-pair : (s r : Suit) → w ≡ 7 → s ≡ argsOf counts arities t 0 2 false → r ≡ onKind (eqb k 5) s → Is r
-  unfolding suitAt
-  is-pair s r e i h = rw (← wIs, e, ← kIs, ← i) h
-
-  pub is-tuple : (a x : ℕ) (s r : Suit) → w ≡ suc (suc (suc (suc (suc (suc (suc (suc x))))))) → a ≡ getD bytes (at + 1) 0 → s ≡ argsOf counts arities t 0 a false → r ≡ onKind (eqb k 4) s → Is r
-  unfolding suitAt
-  is-tuple a x s r e aIs i h = rw (← wIs, e, ← kIs, ← aIs, ← i) h
-
--- all arguments
-pub fill-all : (c k : ℕ) (spread : Bool) (n : ℕ) → k ≡ n → Args c k 0 ≡ filledBy c k spread n
+-- as many arguments as there must be, and wildcards
+pub fill-some : (c k : ℕ) (spread : Bool) (n w : ℕ) → true ≡ (eqb k n || (spread && leb k n)) → w ≡ n - k → Args c k w ≡ filledBy c k spread n
 unfolding filledBy
-fill-all c k spread n e = let z : n - k ≡ 0 = omega arith in rw (eq-eqb k n e, z)
+fill-some c k spread n w e i = rw (← e, i)
 
--- fewer with spread
-pub fill-spread : (c k : ℕ) (spread : Bool) (n : ℕ) → (k ≡ n → ⊥) → spread ≡ true → k < n → Args c k (n - k) ≡ filledBy c k spread n
+-- another number
+pub fill-none : (c k : ℕ) (spread : Bool) (n : ℕ) → false ≡ (eqb k n || (spread && leb k n)) → Unfit ≡ filledBy c k spread n
 unfolding filledBy
-fill-spread c k spread n d e l = rw (ne-eqb k n d, e, le-leb k n (omega arith))
-
--- too many with spread
-pub fill-many : (c k : ℕ) (spread : Bool) (n : ℕ) → (k ≡ n → ⊥) → spread ≡ true → n ≤ k → Unfit ≡ filledBy c k spread n
-unfolding filledBy
-fill-many c k spread n d e l = rw (ne-eqb k n d, e, lt-leb k n (omega arith))
-
--- another count without spread
-pub fill-bare : (c k : ℕ) (spread : Bool) (n : ℕ) → (k ≡ n → ⊥) → spread ≡ false → Unfit ≡ filledBy c k spread n
-unfolding filledBy
-fill-bare c k spread n d e = rw (ne-eqb k n d, e)
+fill-none c k spread n e = rw (← e)
 
 module _ (counts arities : List ℕ) (t c k : ℕ) (spread : Bool) (n : ℕ) (nIs : n ≡ getD counts t 0) where
   -- no such constructor

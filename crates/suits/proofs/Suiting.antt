@@ -17,10 +17,11 @@ use Rattle.scope.specs.Patterns.{Literal, int, byteArray, Node, lit, con, Raw, 
 use Rattle.layout.specs.Types.{textAt, Shape}
 use Rattle.layout.specs.Nodes.{literalAt, nodeOf, placesIn}
 use Rattle.nodes.specs.Keys.{literalKey}
+use Rattle.rules.specs.Kinds.{suitsKind}
 use Rattle.nodes.proofs.Runs.{plain-one}
 use Rattle.nodes.proofs.Numbers.{literal-place, literal-node}
 use Rattle.suits.specs.Raws.{rawAt, sizeAt, ownPlace}
-use Rattle.suits.specs.Suits.{onKind, filledBy, argsOf, suitAt, meant, Sound}
+use Rattle.suits.specs.Suits.{onKind, filledBy, argsOf, formOf, suitAt, meant, Sound}
 use Rattle.suits.specs.declared.Suit.{Suit}
 use Rattle.suits.specs.declared.Suit.the-variants.{Leaf, Again, Cells, Args, Unfit}
 use Rattle.suits.proofs.Facts.{pair-facts, tuple-facts}
@@ -52,7 +53,7 @@ module _ (bytes kinds counts arities : List ℕ) (at t : ℕ) (small : (i : ℕ)
 
   -- of the pattern's own bytes
   pub counted : Counted bytes at (suitAt bytes at kinds counts arities t) (rawAt bytes at)
-  unfolding suitAt rawAt sizeAt
+  unfolding suitAt formOf suitsKind rawAt sizeAt
   counted = go (getD bytes at 0) refl
     where
       go : (w : ℕ) → getD bytes at 0 ≡ w → Counted bytes at (suitAt bytes at kinds counts arities t) (rawAt bytes at)
@@ -164,7 +165,7 @@ module _ (bytes kinds counts arities : List ℕ) (at t : ℕ) (table : Table) (s
   string-is e = rw e
 
   every-agree : Agree (suitAt bytes at kinds counts arities t) (opened table t (rawAt bytes at))
-  unfolding suitAt rawAt nodeOf
+  unfolding suitAt formOf suitsKind rawAt nodeOf
   every-agree = go (getD bytes at 0) refl
     where
       go : (w : ℕ) → getD bytes at 0 ≡ w → Agree (suitAt bytes at kinds counts arities t) (opened table t (rawAt bytes at))

@@ -10,6 +10,7 @@ use Rattle.scope.specs.Types.{Ref, Table, typeAt, kind, ctors, fieldsAt, arity}
 use Rattle.scope.specs.Patterns.{wild, con, Item, put, pat, cells}
 use Rattle.layout.specs.Nodes.{nodeOf}
 use Rattle.nodes.specs.Keys.{literalKey}
+use Rattle.rules.specs.Kinds.{suitsKind}
 use Rattle.suits.specs.declared.Suit.{Suit}
 use Rattle.suits.specs.declared.Suit.the-variants.{Leaf, Again, Cells, Args, Unfit}
 
@@ -25,14 +26,17 @@ filledBy c k spread n = cond (eqb k n || (spread && leb k n)) (Args c k (n - k))
 unfoldable pub argsOf : List ℕ → List ℕ → ℕ → ℕ → ℕ → Bool → Suit
 argsOf counts arities t c k spread = cond (ltb c (getD counts t 0)) (filledBy c k spread (getD arities (32 * t + c) 0)) Unfit
 
+-- the pattern at a place, read at type t, if the type is of the kind that a pattern of its first byte suits
+unfoldable pub formOf : List ℕ → ℕ → List ℕ → List ℕ → ℕ → ℕ → Suit
+formOf bytes at counts arities t what =
+    getD
+    (Leaf 0 ∷ Leaf 0 ∷ Again ∷ Leaf (literalKey at) ∷ Leaf (literalKey at) ∷ Cells (getD bytes (at + 1) 0) (eqb (getD bytes (at + 2) 0) 1) ∷ argsOf counts arities t (getD bytes (at + 1) 0) (getD bytes (at + 2) 0) (eqb (getD bytes (at + 3) 0) 1) ∷ argsOf counts arities t 0 2 false ∷ [])
+    what
+    (argsOf counts arities t 0 (getD bytes (at + 1) 0) false)
+
 -- the pattern at a place, read at type t
 unfoldable pub suitAt : List ℕ → ℕ → List ℕ → List ℕ → List ℕ → ℕ → Suit
-suitAt bytes at kinds counts arities t =
-    let k = getD kinds t 0 in
-    getD
-    (Leaf 0 ∷ Leaf 0 ∷ Again ∷ onKind (eqb k 0) (Leaf (literalKey at)) ∷ onKind (eqb k 1) (Leaf (literalKey at)) ∷ onKind (eqb k 3) (Cells (getD bytes (at + 1) 0) (eqb (getD bytes (at + 2) 0) 1)) ∷ onKind (eqb k 6) (argsOf counts arities t (getD bytes (at + 1) 0) (getD bytes (at + 2) 0) (eqb (getD bytes (at + 3) 0) 1)) ∷ onKind (eqb k 5) (argsOf counts arities t 0 2 false) ∷ [])
-    (getD bytes at 0)
-    (onKind (eqb k 4) (argsOf counts arities t 0 (getD bytes (at + 1) 0) false))
+suitAt bytes at kinds counts arities t = onKind (suitsKind (getD bytes at 0) (getD kinds t 0)) (formOf bytes at counts arities t (getD bytes at 0))
 
 -- the items that an answer stands for
 abbrev pub meant : Table → List ℕ → Ref → Suit → Option (List Item)

@@ -2,11 +2,13 @@
 use cells::at8;
 use cells::wide8;
 use nodes::low;
+use rules::is_enough;
+use rules::suits_kind;
+use rules::wilds;
 ghost use mathlib.Core.Path.{_≡_};
 ghost use mathlib.Core.List.{List};
-ghost use Prim.Native.Nat.{ℕ, _+_, _<_};
-ghost use lib.ListN.{getD};
-ghost use Rattle.suits.specs.Suits.{onKind, filledBy, argsOf, suitAt};
+ghost use Prim.Native.Nat.{ℕ, _<_, _≤_};
+ghost use Rattle.suits.specs.Suits.{filledBy, argsOf, formOf, suitAt};
 
 // What the pattern at a place becomes, read at a type.
 pub enum Suit {
@@ -22,32 +24,16 @@ pub enum Suit {
     Unfit,
 }
 
-// An answer, if the type is of the kind that the pattern wants.
-fn on_kind(ok: bool, s: Suit) -> Suit
-    ensures { λ r. ⌜ r ≡ onKind ok s ⌝ }
-{
-    if ok { s } else { Suit::Unfit }
-}
-
 // Constructor c with k of its n arguments.
 fn filled(c: usize, k: usize, spread: bool, n: usize) -> Suit
     ensures { λ r. ⌜ r ≡ filledBy c k spread n ⌝ }
 {
-    if k == n {
+    if is_enough(k, spread, n) {
         return Suit::Args {
             c,
             more: k,
-            wilds: 0,
+            wilds: wilds(k, n),
         };
-    }
-    if spread {
-        if k < n {
-            return Suit::Args {
-                c,
-                more: k,
-                wilds: n - k,
-            };
-        }
     }
     Suit::Unfit
 }
@@ -63,27 +49,42 @@ fn args(counts: &[u8], arities: &[u8], t: usize, c: usize, k: usize, spread: boo
     filled(c, k, spread, wide8(at8(arities, 32 * t + c)))
 }
 
-// A constructor, a pair or a tuple at `at`, read at type t of this kind.
-fn applied(
-    bytes: &[u8],
-    at: usize,
-    what: u8,
-    kind: u8,
-    counts: &[u8],
-    arities: &[u8],
-    t: usize,
-) -> Suit
-    requires { ⌜ (at < 65536) × (t < 16384) ⌝ }
-    ensures { λ r. ⌜ ((kinds : List ℕ) (x : ℕ) → what ≡ getD (now (bytes .entry)) at 0 → kind ≡ getD kinds t 0 → what ≡ 6 + x → r ≡ suitAt (now (bytes .entry)) at kinds (now (counts .entry)) (now (arities .entry)) t) ⌝ }
+// A pattern without counts at `at`, whose type it suits.
+fn plain(what: u8, at: usize) -> Suit
+    requires { ⌜ what < 5 ⌝ }
+    ensures { λ r. ⌜ ((bytes counts arities : List ℕ) (t : ℕ) → r ≡ formOf bytes at counts arities t what) ⌝ }
 {
-    let a = wide8(at8(bytes, at + 1));
-    let b = wide8(at8(bytes, at + 2));
-    let flag = at8(bytes, at + 3) == 1;
-    match what {
-        6 => on_kind(kind == 6, args(counts, arities, t, a, b, flag)),
-        7 => on_kind(kind == 5, args(counts, arities, t, 0, 2, false)),
-        _ => on_kind(kind == 4, args(counts, arities, t, 0, a, false)),
+    if what < 2 {
+        return Suit::Leaf { node: 0 };
     }
+    if what == 2 {
+        return Suit::Again;
+    }
+    Suit::Leaf {
+        node: low(32768 + at % 32768),
+    }
+}
+
+// A list, a constructor, a pair or a tuple at `at`, whose kind of type it suits.
+fn applied(bytes: &[u8], at: usize, what: u8, counts: &[u8], arities: &[u8], t: usize) -> Suit
+    requires { ⌜ (at < 65536) × (t < 16384) × (5 ≤ what) ⌝ }
+    ensures { λ r. ⌜ r ≡ formOf (now (bytes .entry)) at (now (counts .entry)) (now (arities .entry)) t what ⌝ }
+{
+    if what == 7 {
+        return args(counts, arities, t, 0, 2, false);
+    }
+    let a = wide8(at8(bytes, at + 1));
+    if 7 < what {
+        return args(counts, arities, t, 0, a, false);
+    }
+    let b = at8(bytes, at + 2);
+    if what == 5 {
+        return Suit::Cells {
+            more: a,
+            tail: b == 1,
+        };
+    }
+    args(counts, arities, t, a, wide8(b), at8(bytes, at + 3) == 1)
 }
 
 // The pattern at `at`, read at type t.
@@ -92,21 +93,11 @@ pub fn suits(bytes: &[u8], at: usize, kinds: &[u8], counts: &[u8], arities: &[u8
     ensures { λ r. ⌜ r ≡ suitAt (now (bytes .entry)) at (now (kinds .entry)) (now (counts .entry)) (now (arities .entry)) t ⌝ }
 {
     let what = at8(bytes, at);
-    let kind = at8(kinds, t);
-    let literal = low(32768 + at % 32768);
-    match what {
-        0 => Suit::Leaf { node: 0 },
-        1 => Suit::Leaf { node: 0 },
-        2 => Suit::Again,
-        3 => on_kind(kind == 0, Suit::Leaf { node: literal }),
-        4 => on_kind(kind == 1, Suit::Leaf { node: literal }),
-        5 => on_kind(
-            kind == 3,
-            Suit::Cells {
-                more: wide8(at8(bytes, at + 1)),
-                tail: at8(bytes, at + 2) == 1,
-            },
-        ),
-        _ => applied(bytes, at, what, kind, counts, arities, t),
+    if !suits_kind(what, at8(kinds, t)) {
+        return Suit::Unfit;
     }
+    if what < 5 {
+        return plain(what, at);
+    }
+    applied(bytes, at, what, counts, arities, t)
 }

@@ -1,40 +1,79 @@
--- `suits::applied` meets its contract: a constructor, a pair, a tuple.
+-- `suits::applied` meets its contract: a pair, a tuple, a list, a constructor.
 use mathlib.Core.Path.{_∙_}
-use Rattle.suits.proofs.Small.{is-ctor, is-pair, is-tuple, past-seven}
+use Rattle.suits.proofs.Small.{is-pair, is-tuple, is-list, is-ctor}
 use borrow.Author.Needs.{needs}
 use Rattle.suits.proofs.applied.Statement.{statement}
 use Rattle.suits.proofs.applied.Tie as tie
 
+args-requires : tie.Need-args-requires
+args-requires c κs = search needs
+
 returns : tie.Need-returns
 returns c =
-    λ kinds x wIs kIs h. is-ctor (c .before .before .before .before .before .before .before .before .before .before .before .args .bytes .now) kinds (c .before .before .before .before .before .before .before .before .before .before .before .args .counts .now) (c .before .before .before .before .before .before .before .before .before .before .before .args .arities .now) (c .before .before .before .before .before .before .before .before .before .before .before .args .at) (c .before .before .before .before .before .before .before .before .before .before .before .args .t) (c .before .before .before .before .before .before .before .before .before .before .before .args .what) (c .before .before .before .before .before .before .before .before .before .before .before .args .kind) wIs kIs (c .before .before .before .before .before .before .wide8 .result) (c .before .before .before .before .wide82 .result) (c .before .before .before .at83 .result) (c .before .args2 .result) (c .on-kind .result) (c .before .before .match .keys1) (c .before .before .before .before .before .before .wide8 .ensures ∙ c .before .before .before .before .before .before .before .at8 .ensures) (c .before .before .before .before .wide82 .ensures ∙ c .before .before .before .before .before .at82 .ensures) (c .before .before .before .at83 .ensures) (c .before .args2 .ensures) (c .on-kind .ensures)
+    let a = c .before .before .before .before .before .args in
+    is-pair (a .bytes .now) (a .counts .now) (a .arities .now) (a .at) (a .t) (a .what) (c .args2 .result) (c .before .if1 .taken) (c .args2 .ensures)
+
+add-at8 : tie.Need-add-at8
+add-at8 c = search needs
+
+at8-requires : tie.Need-at8-requires
+at8-requires c κs = search needs
+
+wide8-requires : tie.Need-wide8-requires
+wide8-requires c κs = search needs
+
+args-requires-2 : tie.Need-args-requires-2
+args-requires-2 c κs = search needs
 
 returns-2 : tie.Need-returns-2
 returns-2 c =
-    λ kinds x wIs kIs h. is-pair (c .before .before .before .before .before .before .before .before .before .before .before .args .bytes .now) kinds (c .before .before .before .before .before .before .before .before .before .before .before .args .counts .now) (c .before .before .before .before .before .before .before .before .before .before .before .args .arities .now) (c .before .before .before .before .before .before .before .before .before .before .before .args .at) (c .before .before .before .before .before .before .before .before .before .before .before .args .t) (c .before .before .before .before .before .before .before .before .before .before .before .args .what) (c .before .before .before .before .before .before .before .before .before .before .before .args .kind) wIs kIs (c .before .args3 .result) (c .on-kind2 .result) (c .before .before .match .keys2) (c .before .args3 .ensures) (c .on-kind2 .ensures)
+    let a = c .before .before .before .before .before .before .before .before .args in
+    is-tuple (a .bytes .now) (a .counts .now) (a .arities .now) (a .at) (a .t) (a .what) (c .before .before .wide8 .result) (c .args3 .result) (c .before .if2 .taken) (c .before .before .wide8 .ensures ∙ c .before .before .before .at8 .ensures) (c .args3 .ensures)
+
+add-at8-2 : tie.Need-add-at8-2
+add-at8-2 c = search needs
+
+at8-requires-2 : tie.Need-at8-requires-2
+at8-requires-2 c κs = search needs
 
 returns-3 : tie.Need-returns-3
 returns-3 c =
-    λ kinds x wIs kIs h. let p = past-seven (c .before .before .before .before .before .before .before .before .before .before .before .args .what) x h (c .before .before .match .rest .0 .1) (c .before .before .match .rest .1) in is-tuple (c .before .before .before .before .before .before .before .before .before .before .before .args .bytes .now) kinds (c .before .before .before .before .before .before .before .before .before .before .before .args .counts .now) (c .before .before .before .before .before .before .before .before .before .before .before .args .arities .now) (c .before .before .before .before .before .before .before .before .before .before .before .args .at) (c .before .before .before .before .before .before .before .before .before .before .before .args .t) (c .before .before .before .before .before .before .before .before .before .before .before .args .what) (c .before .before .before .before .before .before .before .before .before .before .before .args .kind) wIs kIs (c .before .before .before .before .before .before .wide8 .result) (p .0) (c .before .args4 .result) (c .on-kind3 .result) (p .1) (c .before .before .before .before .before .before .wide8 .ensures ∙ c .before .before .before .before .before .before .before .at8 .ensures) (c .before .args4 .ensures) (c .on-kind3 .ensures)
+    let a = c .before .before .before .before .before .before .before .before .before .args in
+    is-list (a .bytes .now) (a .counts .now) (a .arities .now) (a .at) (a .t) (a .what) (c .before .before .before .wide8 .result) (c .before .at82 .result) (c .if3 .taken) (c .before .before .before .wide8 .ensures ∙ c .before .before .before .before .at8 .ensures) (c .before .at82 .ensures)
+
+wide8-requires-2 : tie.Need-wide8-requires-2
+wide8-requires-2 c κs = search needs
+
+add-at8-3 : tie.Need-add-at8-3
+add-at8-3 c = search needs
+
+at8-requires-3 : tie.Need-at8-requires-3
+at8-requires-3 c κs = search needs
+
+args-requires-3 : tie.Need-args-requires-3
+args-requires-3 c κs = search needs
+
+returns-4 : tie.Need-returns-4
+returns-4 c =
+    let a = c .before .before .before .before .before .before .before .before .before .before .before .before .args in
+    is-ctor (a .bytes .now) (a .counts .now) (a .arities .now) (a .at) (a .t) (a .what) (c .before .before .before .before .before .before .wide8 .result) (c .before .before .wide82 .result) (c .before .at83 .result) (c .args4 .result) (c .before .before .before .before .before .before .before .before .before .before .before .before .pre .2) (c .before .before .before .if3 .left) (c .before .before .before .before .before .before .before .before .if1 .left) (c .before .before .before .before .before .if2 .left) (c .before .before .before .before .before .before .wide8 .ensures ∙ c .before .before .before .before .before .before .before .at8 .ensures) (c .before .before .wide82 .ensures ∙ c .before .before .before .before .at82 .ensures) (c .before .at83 .ensures) (c .args4 .ensures)
 
 pub applied-spec : {M : Type 1} → statement M
 applied-spec =
     tie.close
     (tie.spec
-    (λ c. search needs)
-    (λ c κs. search needs)
-    (λ c κs. search needs)
-    (λ c. search needs)
-    (λ c κs. search needs)
-    (λ c κs. search needs)
-    (λ c. search needs)
-    (λ c κs. search needs)
-    (λ c κs. search needs)
-    (λ c κs. search needs)
-    (λ c κs. search needs)
-    (λ c κs. search needs)
-    (λ c κs. search needs)
-    (λ c κs. search needs)
+    args-requires
     returns
+    add-at8
+    at8-requires
+    wide8-requires
+    args-requires-2
     returns-2
-    returns-3)
+    add-at8-2
+    at8-requires-2
+    returns-3
+    wide8-requires-2
+    add-at8-3
+    at8-requires-3
+    args-requires-3
+    returns-4)

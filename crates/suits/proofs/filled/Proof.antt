@@ -1,27 +1,25 @@
--- `suits::filled` meets its contract: all arguments, fewer with spread, any other count.
-use native.Mathlib.Omega.{arith}
-use Rattle.suits.proofs.Small.{fill-all, fill-spread, fill-many, fill-bare}
+-- `suits::filled` meets its contract: enough arguments or not.
+use mathlib.Core.Path.{sym, _∙_}
+use Rattle.suits.proofs.Small.{fill-some, fill-none}
+use borrow.Author.Needs.{needs}
 use Rattle.suits.proofs.filled.Statement.{statement}
 use Rattle.suits.proofs.filled.Tie as tie
 
+is-enough-requires : tie.Need-is-enough-requires
+is-enough-requires c κs = search needs
+
+wilds-requires : tie.Need-wilds-requires
+wilds-requires c κs = search needs
+
 returns : tie.Need-returns
 returns c =
-    fill-all (c .before .args .c) (c .before .args .k) (c .before .args .spread) (c .before .args .n) (c .if1 .taken)
-
-sub-t7 : tie.Need-sub-t7
-sub-t7 c = omega arith
+    let a = c .before .before .before .args in
+    fill-some (a .c) (a .k) (a .spread) (a .n) (c .wilds .result) (sym (c .before .if1 .taken) ∙ c .before .before .is-enough .ensures) (c .wilds .ensures)
 
 returns-2 : tie.Need-returns-2
 returns-2 c =
-    fill-spread (c .before .before .before .args .c) (c .before .before .before .args .k) (c .before .before .before .args .spread) (c .before .before .before .args .n) (c .before .before .if1 .left) (c .before .if2 .taken) (c .if3 .taken)
-
-returns-3 : tie.Need-returns-3
-returns-3 c =
-    fill-many (c .before .before .before .args .c) (c .before .before .before .args .k) (c .before .before .before .args .spread) (c .before .before .before .args .n) (c .before .before .if1 .left) (c .before .if2 .taken) (c .if3 .left)
-
-returns-4 : tie.Need-returns-4
-returns-4 c =
-    fill-bare (c .before .before .args .c) (c .before .before .args .k) (c .before .before .args .spread) (c .before .before .args .n) (c .before .if1 .left) (c .if2 .left)
+    let a = c .before .before .args in
+    fill-none (a .c) (a .k) (a .spread) (a .n) (sym (c .if1 .left) ∙ c .before .is-enough .ensures)
 
 pub filled-spec : {M : Type 1} → statement M
-filled-spec = tie.close (tie.spec returns sub-t7 returns-2 returns-3 returns-4)
+filled-spec = tie.close (tie.spec is-enough-requires wilds-requires returns returns-2)

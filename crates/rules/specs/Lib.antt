@@ -1,0 +1,2 @@
+-- Which types a pattern suits.
+pub mod Kinds
