@@ -9,12 +9,13 @@ use lib.ListN.{length, getD, take, drop, set, length-drop, length-take}
 use lib.Seq.{drop-drop, take-all, sets}
 use Rattle.cells.proofs.Laws.{sets-next}
 use lib.Dec.{eqb, leb, ltb}
-use borrow.Author.Tests.{eq-eqb, ne-eqb, eqb-true, leb-true, le-leb, lt-leb, lt-ltb, le-ltb}
+use borrow.Author.Tests.{eq-eqb, ne-eqb, eqb-true, ltb-true, ltb-false, leb-true, le-leb, lt-leb}
 use Rattle.scope.proofs.Tests.{both}
+use Rattle.scope.specs.Limits.{maxDigits}
 use Rattle.scope.specs.Lists.{all, among}
 use Rattle.scope.specs.Lines.{ended, cut, intoFirst, lines, isHex, hex, unhex, isLine}
 use Rattle.cells.proofs.Parts.{left}
-use Rattle.letters.proofs.Laws.{and-left, and-right, among-true}
+use Rattle.letters.proofs.Laws.{among-true}
 use Rattle.hex.specs.Digits.{digits, TakenLine, RefusedLine}
 
 -- a digit is one of 0 to 9 or one of a to f
@@ -104,24 +105,8 @@ all-at p [] i a h = absurd (omega arith)
 all-at p (x ∷ s) zero a h = both (p x) (all p s) a .0
 all-at p (x ∷ s) (suc i) a h = all-at p s i (both (p x) (all p s) a .1) (omega arith)
 
--- refusal 3's tests of an ended line, in their order
+-- what an ended line is
 module _ (ds : List ℕ) where
-  pub empty-line : length ds ≡ 0 → false ≡ isLine (ended ds)
-  unfolding isLine
-  empty-line h = and-left _ _ (sym (and-left _ _ (sym (and-left _ _ (le-ltb 0 (length ds) (omega arith))))))
-
-  pub odd-line : (length ds % 2 ≡ 0 → ⊥) → false ≡ isLine (ended ds)
-  unfolding isLine
-  odd-line h = and-left _ _ (sym (and-left _ _ (sym (and-right _ _ _ (lt-ltb 0 (length ds) (omega arith)) (ne-eqb (length ds % 2) 0 h)))))
-
-  pub long-line : length ds % 2 ≡ 0 → 1280 < length ds → false ≡ isLine (ended ds)
-  unfolding isLine
-  long-line e h = and-left _ _ (sym (and-right _ _ _ (sym (and-right _ _ _ (lt-ltb 0 (length ds) (omega arith)) (eq-eqb (length ds % 2) 0 e))) (lt-leb (length ds) 1280 h)))
-
-  pub hex-line : 0 < length ds → length ds % 2 ≡ 0 → length ds ≤ 1280 → all isHex ds ≡ isLine (ended ds)
-  unfolding isLine
-  hex-line z e h = and-right _ _ _ (sym (and-right _ _ _ (sym (and-right _ _ _ (lt-ltb 0 (length ds) z) (eq-eqb (length ds % 2) 0 e))) (le-leb (length ds) 1280 h))) refl
-
   pub line-hex : isLine (ended ds) ≡ true → (length ds ≤ 1280) × (length ds % 2 ≡ 0) × (all isHex ds ≡ true)
   unfolding isLine
   line-hex h =
@@ -141,6 +126,25 @@ decode-next ds d at k b h e =
 pub decode-done : (ds d : List ℕ) (at k : ℕ) → length ds / 2 ≤ k → sets d at (take k (unhex ds)) ≡ sets d at (unhex ds)
 decode-done ds d at k h = ap (sets d at) (take-all k (unhex ds) (omega (arith, length-unhex ds)))
 
+-- refusal 3's tests of the characters between two places: a line feed after them, their number, their digits
+module _ (file : List ℕ) (from end : ℕ) (on : from ≤ end) (inside : end ≤ length file) where
+  abbrev part : List ℕ
+  part = take (end - from) (drop from file)
+
+  are : length part ≡ end - from
+  are = omega (arith, length-take (end - from) (drop from file), length-drop from file)
+
+  pub no-feed : false ≡ ltb end (length file) → false ≡ (ltb end (length file) && isLine (ended part))
+  no-feed h = rw (← h)
+
+  pub no-length : true ≡ ltb end (length file) → false ≡ (ltb 0 (end - from) && eqb ((end - from) % 2) 0 && leb (end - from) maxDigits) → false ≡ (ltb end (length file) && isLine (ended part))
+  unfolding isLine
+  no-length h k = rw (← h, are, ← k)
+
+  pub hex-line : true ≡ ltb end (length file) → true ≡ (ltb 0 (end - from) && eqb ((end - from) % 2) 0 && leb (end - from) maxDigits) → all isHex part ≡ (ltb end (length file) && isLine (ended part))
+  unfolding isLine
+  hex-line h k = rw (← h, are, ← k)
+
 -- The line that begins at `from` and whose characters go up to `end`
 module _ (file : List ℕ) (from end : ℕ) (inside : from < length file) (ends : end ≡ from + length (digits (drop from file))) where
   -- they are a part of the file
@@ -156,7 +160,7 @@ module _ (file : List ℕ) (from end : ℕ) (inside : from < length file) (ends 
   length-part = ap length part-digits ∙ omega arith
 
   -- no line feed: 3
-  pub line-cut : (out : List ℕ) → length file ≤ end → RefusedLine file from out out
+  line-cut : (out : List ℕ) → length file ≤ end → RefusedLine file from out out
   unfolding isLine
   line-cut out h =
       record {
@@ -168,7 +172,7 @@ module _ (file : List ℕ) (from end : ℕ) (inside : from < length file) (ends 
       }
 
   -- the line and those after it
-  pub line-begins : end < length file → lines (drop from file) ≡ ended (take (end - from) (drop from file)) ∷ lines (drop (end + 1) file)
+  line-begins : end < length file → lines (drop from file) ≡ ended (take (end - from) (drop from file)) ∷ lines (drop (end + 1) file)
   line-begins h =
       let n : from + suc (length (digits (drop from file))) ≡ end + 1 = omega arith in
       lines-ended (drop from file) (omega (arith, length-drop from file))
@@ -176,8 +180,20 @@ module _ (file : List ℕ) (from end : ℕ) (inside : from < length file) (ends 
       ∙ ap (λ (s : List ℕ). ended (take (end - from) (drop from file)) ∷ lines s) (drop-drop (suc (length (digits (drop from file)))) from file ∙ ap (λ (k : ℕ). drop k file) n)
 
   -- another cause of 3
-  pub line-bad : (out : List ℕ) → end < length file → isLine (ended (take (end - from) (drop from file))) ≡ false → RefusedLine file from out out
+  line-bad : (out : List ℕ) → end < length file → isLine (ended (take (end - from) (drop from file))) ≡ false → RefusedLine file from out out
   line-bad out h b = record { line = ended (take (end - from) (drop from file)); others = lines (drop (end + 1) file); begins = line-begins h; bad = b; kept = refl }
+
+  -- any cause of 3
+  pub line-refused : (out : List ℕ) (r : Bool) → r ≡ (ltb end (length file) && isLine (ended (take (end - from) (drop from file)))) → r ≡ false → RefusedLine file from out out
+  line-refused out r is h = go (ltb end (length file)) refl (sym is ∙ h)
+    where
+      go : (b : Bool) → ltb end (length file) ≡ b → (b && isLine (ended (take (end - from) (drop from file)))) ≡ false → RefusedLine file from out out
+      go true e k = line-bad out (ltb-true end (length file) e) k
+      go false e k = line-cut out (ltb-false end (length file) e)
+
+  -- no cause
+  pub line-taken : (r : Bool) → r ≡ (ltb end (length file) && isLine (ended (take (end - from) (drop from file)))) → r ≡ true → (end < length file) × (isLine (ended (take (end - from) (drop from file))) ≡ true)
+  line-taken r is h = let p = both (ltb end (length file)) (isLine (ended (take (end - from) (drop from file)))) (sym is ∙ h) in (ltb-true end (length file) (p .0), p .1)
 
   -- not 3
   pub line-good : (out after : List ℕ) (at to : ℕ) → end < length file → 2 * at ≤ from → isLine (ended (take (end - from) (drop from file))) ≡ true → to ≡ at + length (unhex (take (end - from) (drop from file))) → after ≡ sets out at (unhex (take (end - from) (drop from file))) → TakenLine file from out at (end + 1) to after

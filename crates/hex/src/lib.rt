@@ -1,13 +1,16 @@
 // A line's hexadecimal: refusal 3.
 ghost use mathlib.Core.Path.{_≡_};
-ghost use mathlib.Core.Bool.{true};
-ghost use Prim.Native.Nat.{_+_, _*_, _≤_, _<_};
-ghost use lib.ListN.{length, drop};
+ghost use mathlib.Core.Bool.{true, _&&_};
+ghost use Prim.Native.Nat.{_+_, _-_, _*_, _≤_, _<_};
+ghost use lib.ListN.{length, take, drop};
 ghost use lib.Seq.{sets};
+ghost use lib.Dec.{ltb};
 ghost use Rattle.scope.specs.Lists.{all};
 ghost use Rattle.scope.specs.Lines.{ended, isHex, hex, unhex, isLine};
 ghost use Rattle.hex.specs.Digits.{digits, Lined};
 use letters::all_digits;
+use rules::has_feed;
+use rules::is_line_length;
 
 pub enum Line {
     Good { next: usize, to: usize },
@@ -50,21 +53,18 @@ fn line_end(file: &[u8], from: usize) -> usize
     i
 }
 
-// Whether a line that is ended is one: not empty, even, not over 1,280 digits, all hexadecimal.
-fn is_line(ds: &[u8]) -> bool
-    ensures { λ r. ⌜ r ≡ isLine (ended (now (ds .entry))) ⌝ }
+// Whether the characters from `from` to `end`, where a line feed or the file's end is, are a line.
+fn is_line(file: &[u8], from: usize, end: usize) -> bool
+    requires { ⌜ (from ≤ end) × (end ≤ length (now file)) ⌝ }
+    ensures { λ r. ⌜ r ≡ (ltb end (length (now (file .entry))) && isLine (ended (take (end - from) (drop from (now (file .entry)))))) ⌝ }
 {
-    let n = ds.len();
-    if n == 0 {
+    if !has_feed(end, file.len()) {
         return false;
     }
-    if n % 2 != 0 {
+    if !is_line_length(end - from) {
         return false;
     }
-    if 1280 < n {
-        return false;
-    }
-    all_digits(true, ds)
+    all_digits(true, &file[from..end])
 }
 
 // The bytes that the digits say, written to out from `at` on; the place after them.
@@ -91,10 +91,7 @@ pub fn read_line(file: &[u8], from: usize, out: &mut [u8], at: usize) -> Line
     ensures { λ r. ⌜ Lined (now (file .entry)) from (now (out .entry)) at r (now (out .exit)) ⌝ }
 {
     let end = line_end(file, from);
-    if file.len() <= end {
-        return Line::Bad;
-    }
-    if !is_line(&file[from..end]) {
+    if !is_line(file, from, end) {
         return Line::Bad;
     }
     let to = decode(&file[from..end], out, at);

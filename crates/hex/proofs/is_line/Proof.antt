@@ -1,26 +1,58 @@
 -- `hex::is_line` meets its contract, one test after another.
-use mathlib.Core.Path.{_∙_}
-use Rattle.hex.proofs.Hexadecimal.{empty-line, odd-line, long-line, hex-line}
+use mathlib.Core.Path.{sym, _∙_}
+use borrow.Author.Tests.{not-true, not-false}
+use Rattle.hex.proofs.Hexadecimal.{no-feed, no-length, hex-line}
 use borrow.Author.Needs.{needs}
-use native.Mathlib.Omega.{arith}
 use Rattle.hex.proofs.is_line.Statement.{statement}
 use Rattle.hex.proofs.is_line.Tie as tie
 
+has-feed-requires : tie.Need-has-feed-requires
+has-feed-requires c κs = search needs
+
 returns : tie.Need-returns
 returns c =
-    empty-line (c .before .before .args .ds .now) (c .if1 .taken)
+    let a = c .before .before .before .args in
+    no-feed (a .file .now) (a .from) (a .end) (c .before .before .before .pre .0) (c .before .before .before .pre .1) (sym (not-true _ (c .if1 .taken)) ∙ c .before .has-feed .ensures)
+
+sub-is-line-length : tie.Need-sub-is-line-length
+sub-is-line-length c = search needs
+
+is-line-length-requires : tie.Need-is-line-length-requires
+is-line-length-requires c κs = search needs
 
 returns-2 : tie.Need-returns-2
 returns-2 c =
-    odd-line (c .before .before .before .args .ds .now) (c .if2 .taken)
+    let a = c .before .before .before .before .before .args in
+    no-length (a .file .now) (a .from) (a .end) (c .before .before .before .before .before .pre .0) (c .before .before .before .before .before .pre .1) (sym (not-false _ (c .before .before .if1 .left)) ∙ c .before .before .before .has-feed .ensures) (sym (not-true _ (c .if2 .taken)) ∙ c .before .is-line-length .ensures)
+
+sub-all-digits : tie.Need-sub-all-digits
+sub-all-digits c = search needs
+
+part-all-digits-start : tie.Need-part-all-digits-start
+part-all-digits-start c = search needs
+
+part-all-digits-end : tie.Need-part-all-digits-end
+part-all-digits-end c = search needs
+
+all-digits-requires : tie.Need-all-digits-requires
+all-digits-requires c κs = search needs
 
 returns-3 : tie.Need-returns-3
 returns-3 c =
-    long-line (c .before .before .before .before .args .ds .now) (c .before .if2 .left) (c .if3 .taken)
-
-returns-4 : tie.Need-returns-4
-returns-4 c =
-    c .all-digits .ensures ∙ hex-line (c .before .before .before .before .before .args .ds .now) (omega arith) (c .before .before .if2 .left) (c .before .if3 .left)
+    let a = c .before .before .before .before .before .before .before .args in
+    c .all-digits .ensures ∙ hex-line (a .file .now) (a .from) (a .end) (c .before .before .before .before .before .before .before .pre .0) (c .before .before .before .before .before .before .before .pre .1) (sym (not-false _ (c .before .before .before .before .if1 .left)) ∙ c .before .before .before .before .before .has-feed .ensures) (sym (not-false _ (c .before .before .if2 .left)) ∙ c .before .before .before .is-line-length .ensures)
 
 pub is-line-spec : {M : Type 1} → statement M
-is-line-spec = tie.close (tie.spec returns returns-2 returns-3 (λ c κs. search needs) returns-4)
+is-line-spec =
+    tie.close
+    (tie.spec
+    has-feed-requires
+    returns
+    sub-is-line-length
+    is-line-length-requires
+    returns-2
+    sub-all-digits
+    part-all-digits-start
+    part-all-digits-end
+    all-digits-requires
+    returns-3)
