@@ -1,21 +1,22 @@
 -- What each frame holds, piece by piece: what is reached after each. From the laws of one reader after another.
-use mathlib.Core.Path.{_≡_, refl, sym, ap, subst, _∙_}
+use mathlib.Core.Path.{_≡_, refl, sym, ap, _∙_}
 use mathlib.Core.List.{List, [], _∷_}
 use mathlib.Core.Bool.{Bool, true, false}
-use Prim.Native.Nat.{ℕ, zero, suc, _+_, _≤_, _<_}
+use Prim.Native.Nat.{ℕ, zero, suc, _+_, _-_, _≤_, _<_}
 use native.Mathlib.Omega.{arith}
 use lib.ListN.{length, getD, drop, List·getD-eq-default}
-use lib.Dec.{eqb}
+use lib.Dec.{ltb, eqb}
+use borrow.Author.Tests.{ltb-true, ltb-false}
 use Rattle.scope.specs.Lists.{Text, bit, among}
 use Rattle.scope.specs.Types.{Ref, Ctor, Ty, integer, byteString, opaque, list, tuple, pair, dat}
 use Rattle.scope.specs.Frames as scope
-use Rattle.scope.specs.Frames.{fault, found, Reader, andThen, _>>=_, give, byte, within, flag, times, bigName, smallName, typeKinds, typeFrame, fieldsFor, constructorFrame}
+use Rattle.scope.specs.Frames.{fault, found, Reader, andThen, _>>=_, give, byte, passing, within, flag, times, bigName, smallName, typeKinds, typeFrame, fieldsFor, constructorFrame}
 use Rattle.fields.specs.declared.Read.{Read}
 use Rattle.fields.specs.declared.Read.the-variants.{At, Fault}
 use Rattle.fields.specs.Places.{placed, readAt}
-use Rattle.declarations.specs.Pieces.{countedBytes, field, fields}
+use Rattle.declarations.specs.Pieces.{countedBytes, field, fieldsWith, fields}
 use Rattle.letters.proofs.Laws.{among-true}
-use Rattle.fields.proofs.Readers.{Keeps, give-keeps, byte-keeps, passing-keeps, bind-keeps, times-keeps, choosing-keeps, fault-stays, give-stays, goes-on, found-at, fault-at, place-back, any, byte-reads, Passed, Reached, after-byte, bind-bind, chosen, chosen-none}
+use Rattle.fields.proofs.Readers.{Keeps, give-keeps, byte-keeps, passing-keeps, bind-keeps, times-keeps, choosing-keeps, fault-stays, give-stays, goes-on, found-at, fault-at, place-back, any, byte-reads, passing-ends, passing-stops, passing-goes, Passed, passed, read-stops, read-passes, Reached, times-stops, times-goes, after-byte, byte-at, bind-bind, chosen, chosen-none}
 use Rattle.fields.proofs.Readings.{name-keeps, flag-bit, flag-keeps}
 
 -- A type's frame, by its first byte
@@ -73,10 +74,6 @@ module _ (bytes : List ℕ) (at : ℕ) (inside : at < length bytes) where
       ∙ ap (λ (r : Reader Ty). placed (length bytes) (r (drop (at + 1) bytes))) (sym (List·getD-eq-default typeKinds (λ rest. fault (drop at bytes)) h))
       ∙ sym (type-at bytes at (getD bytes at 0) inside refl)
 
--- what comes after the byte that says whether there are labels
-abbrev fieldsWith : Bool → Reader (List Ref × List Text)
-fieldsWith labelled = within (bit labelled) 16 >>= λ k. fieldsFor labelled k
-
 fields-is : (bs : List ℕ) → (within 0 1 >>= λ b. fieldsWith (eqb b 1)) bs ≡ fields bs
 fields-is bs = sym (bind-bind (within 0 1 bs) (λ b. give (eqb b 1)) fieldsWith)
 
@@ -105,14 +102,19 @@ fields-times (suc n) m bs = go (byte bs) (λ rest. fields-times n m rest)
     go (fault rest) ih = refl
     go (found t rest) ih = more t (smallName rest) ih
 
--- A tuple's count and types; a field with a label
+-- A tuple's count and types
+module _ (bytes : List ℕ) (at n : ℕ) (is : n ≡ getD bytes at 0) where
+  pub counted-none : at ≤ length bytes → among 2 16 n ≡ false → Fault at ≡ readAt bytes at countedBytes
+  counted-none i g = fault-stays (length bytes) (within 2 16 (drop at bytes)) (λ n. times n byte) (Fault at) at (read-stops (among 2 16) refl bytes at n is i g) refl
+
+  pub counted-some : among 2 16 n ≡ true → at + 1 ≤ length bytes
+  counted-some g = let x = read-passes (among 2 16) refl bytes at n is g in omega (arith, x .inside)
+
+  pub counted-types : (c : Read) (m : ℕ) → m ≡ n → among 2 16 n ≡ true → c ≡ readAt bytes (at + 1) (times m byte) → c ≡ readAt bytes at countedBytes
+  counted-types c m w g e = after-byte (among 2 16) (λ n. times n byte) bytes at (at + 1) m c (read-passes (among 2 16) refl bytes at n is g) (w ∙ is) e
+
+-- A field with a label
 module _ (bytes : List ℕ) (at : ℕ) (c : Read) where
-  pub counted-count : (q : ℕ) → c ≡ readAt bytes at (within 2 16) → c ≡ Fault q → c ≡ readAt bytes at countedBytes
-  counted-count q e f = fault-stays (length bytes) (within 2 16 (drop at bytes)) (λ n. times n byte) c q e f
-
-  pub counted-types : (q n : ℕ) → Passed (among 2 16) bytes at q → n ≡ getD bytes at 0 → c ≡ readAt bytes q (times n byte) → c ≡ readAt bytes at countedBytes
-  counted-types q n x m e = after-byte (among 2 16) (λ n. times n byte) bytes at q n c x m e
-
   pub field-type : (q : ℕ) → c ≡ readAt bytes at byte → c ≡ Fault q → c ≡ readAt bytes at field
   field-type q e f = fault-stays (length bytes) (byte (drop at bytes)) (λ t. smallName) c q e f
 
@@ -122,38 +124,76 @@ module _ (bytes : List ℕ) (at : ℕ) (c : Read) where
 pub field-keeps : Keeps field
 field-keeps = bind-keeps byte _ byte-keeps (λ t. name-keeps false)
 
+-- Arity, fields, with labels or without; past the end the arity is 0
+module _ (bytes : List ℕ) (at labels n : ℕ) (inside : at ≤ length bytes) (flag : among 0 1 labels ≡ true) (is : n ≡ getD bytes at 0) where
+  abbrev good : ℕ → Bool
+  good = among (bit (eqb labels 1)) 16
+
+  same-test : good (getD bytes at 0) ≡ among labels 16 n
+  same-test = rw (flag-bit labels flag, is)
+
+  -- the byte does not pass, or there is none
+  no-arity : Fault at ≡ readAt bytes at (passing good) → Fault at ≡ readAt bytes at (fieldsWith (eqb labels 1))
+  no-arity e = fault-stays (length bytes) (passing good (drop at bytes)) (fieldsFor (eqb labels 1)) (Fault at) at e refl
+
+  pub arity-stops : among labels 16 n ≡ false → Fault at ≡ readAt bytes at (fieldsWith (eqb labels 1))
+  arity-stops g = no-arity (go (ltb at (length bytes)) refl)
+    where
+      go : (x : Bool) → ltb at (length bytes) ≡ x → Fault at ≡ readAt bytes at (passing good)
+      go true u = passing-stops good bytes at (ltb-true at (length bytes) u) (same-test ∙ g)
+      go false u = passing-ends good bytes at inside (ltb-false at (length bytes) u)
+
+  -- with labels there is a byte that passes
+  pub labels-inside : among labels 16 n ≡ true → (labels ≡ 0 → ⊥) → at < length bytes
+  labels-inside fits z = go (ltb at (length bytes)) refl
+    where
+      go : (x : Bool) → ltb at (length bytes) ≡ x → at < length bytes
+      go true u = ltb-true at (length bytes) u
+      go false u = absurd (omega (arith, z, among-true labels 16 n fits, is ∙ List·getD-eq-default bytes 0 (ltb-false at (length bytes) u)))
+
+  module _ (fits : among labels 16 n ≡ true) (c : Read) (m : ℕ) (w : m ≡ n) where
+    -- the fields, by what the flag says
+    fields-read : at < length bytes → c ≡ readAt bytes (at + 1) (fieldsFor (eqb labels 1) m) → c ≡ readAt bytes at (fieldsWith (eqb labels 1))
+    fields-read l e =
+        let x : Passed good bytes at (at + 1) = passed good bytes at (at + 1) (At (at + 1)) inside (passing-goes good bytes at l (same-test ∙ fits)) refl in
+        after-byte good (fieldsFor (eqb labels 1)) bytes at (at + 1) m c x (w ∙ is) e
+
+    -- the arity's own byte, and as many more
+    pub fields-plain : labels ≡ 0 → c ≡ readAt bytes at (times (m + 1) byte) → c ≡ readAt bytes at (fieldsWith (eqb labels 1))
+    fields-plain z e = go (ltb at (length bytes)) refl
+      where
+        go : (x : Bool) → ltb at (length bytes) ≡ x → c ≡ readAt bytes at (fieldsWith (eqb labels 1))
+        go true u =
+            let l = ltb-true at (length bytes) u in
+            let y = passed any bytes at (at + 1) (At (at + 1)) inside (passing-goes any bytes at l refl) refl in
+            let r : Reached byte bytes at (at + 1) = record { value = getD bytes at 0; reads = byte-reads bytes at (at + 1) y; onward = omega arith; inside = omega arith } in
+            let k : m + 1 - 1 ≡ m = omega arith in
+            fields-read l
+            (e
+            ∙ times-goes byte bytes at (m + 1) (at + 1) (omega arith) r
+            ∙ ap (λ (k : ℕ). readAt bytes (at + 1) (times k byte)) k
+            ∙ sym (give-stays (length bytes) (times m byte (drop (at + 1) bytes)) (λ ts. (ts, [])))
+            ∙ ap (λ (l : ℕ). readAt bytes (at + 1) (fieldsFor (eqb l 1) m)) (sym z))
+        go false u =
+            let h = ltb-false at (length bytes) u in
+            e
+            ∙ sym (times-stops byte bytes at (m + 1) (Fault at) at (omega arith) (passing-ends any bytes at inside h ∙ byte-at bytes at) refl)
+            ∙ no-arity (passing-ends good bytes at inside h)
+
+    pub fields-labelled : (labels ≡ 0 → ⊥) → c ≡ readAt bytes (at + 1) (times m field) → c ≡ readAt bytes at (fieldsWith (eqb labels 1))
+    fields-labelled z e =
+        let b = among-true 0 1 labels flag in
+        let one : labels ≡ 1 = omega arith in
+        fields-read (labels-inside fits z) (e ∙ fields-times m (length bytes) (drop (at + 1) bytes) ∙ ap (λ (l : ℕ). readAt bytes (at + 1) (fieldsFor (eqb l 1) m)) (sym one))
+
 -- Labels or not, arity, fields
 module _ (bytes : List ℕ) (at : ℕ) (c : Read) where
   pub fields-flag : (q : ℕ) → c ≡ readAt bytes at (within 0 1) → c ≡ Fault q → c ≡ readAt bytes at fields
   fields-flag q e f = fault-stays (length bytes) (within 0 1 (drop at bytes)) (λ b. fieldsWith (eqb b 1)) c q e f ∙ ap (placed (length bytes)) (fields-is (drop at bytes))
 
   -- after the first byte the rest goes by it
-  fields-on : (q : ℕ) → Passed (among 0 1) bytes at q → c ≡ readAt bytes q (fieldsWith (eqb (getD bytes at 0) 1)) → c ≡ readAt bytes at fields
+  pub fields-on : (q : ℕ) → Passed (among 0 1) bytes at q → c ≡ readAt bytes q (fieldsWith (eqb (getD bytes at 0) 1)) → c ≡ readAt bytes at fields
   fields-on q x e = after-byte (among 0 1) (λ b. fieldsWith (eqb b 1)) bytes at q (getD bytes at 0) c x refl e ∙ ap (placed (length bytes)) (fields-is (drop at bytes))
-
-  pub fields-arity : (q p : ℕ) → Passed (among 0 1) bytes at q → c ≡ readAt bytes q (within (getD bytes at 0) 16) → c ≡ Fault p → c ≡ readAt bytes at fields
-  fields-arity q p x e f =
-      fields-on q x
-      (fault-stays (length bytes) (within (bit (eqb (getD bytes at 0) 1)) 16 (drop q bytes)) (fieldsFor (eqb (getD bytes at 0) 1)) c p
-      (e ∙ ap (λ (l : ℕ). readAt bytes q (within l 16)) (sym (flag-bit (getD bytes at 0) (x .passes)))) f)
-
-  -- the fields, by what the first byte says
-  fields-read : (q p n : ℕ) → Passed (among 0 1) bytes at q → Passed (among (getD bytes at 0) 16) bytes q p → n ≡ getD bytes q 0 → c ≡ readAt bytes p (fieldsFor (eqb (getD bytes at 0) 1) n) → c ≡ readAt bytes at fields
-  fields-read q p n x y m e =
-      let l = eqb (getD bytes at 0) 1 in
-      let z : Passed (among (bit l) 16) bytes q p = subst (λ (k : ℕ). Passed (among k 16) bytes q p) (sym (flag-bit (getD bytes at 0) (x .passes))) y in
-      fields-on q x (after-byte (among (bit l) 16) (fieldsFor l) bytes q p n c z m e)
-
-  pub fields-plain : (q p n : ℕ) → Passed (among 0 1) bytes at q → Passed (among (getD bytes at 0) 16) bytes q p → n ≡ getD bytes q 0 → getD bytes at 0 ≡ 0 → c ≡ readAt bytes p (times n byte) → c ≡ readAt bytes at fields
-  fields-plain q p n x y m z e =
-      fields-read q p n x y m
-      (e ∙ sym (give-stays (length bytes) (times n byte (drop p bytes)) (λ ts. (ts, []))) ∙ ap (λ (l : ℕ). readAt bytes p (fieldsFor (eqb l 1) n)) (sym z))
-
-  pub fields-labelled : (q p n : ℕ) → Passed (among 0 1) bytes at q → Passed (among (getD bytes at 0) 16) bytes q p → n ≡ getD bytes q 0 → (getD bytes at 0 ≡ 0 → ⊥) → c ≡ readAt bytes p (times n field) → c ≡ readAt bytes at fields
-  fields-labelled q p n x y m z e =
-      let b = among-true 0 1 (getD bytes at 0) (x .passes) in
-      let one : getD bytes at 0 ≡ 1 = omega arith in
-      fields-read q p n x y m (e ∙ fields-times n (length bytes) (drop p bytes) ∙ ap (λ (l : ℕ). readAt bytes p (fieldsFor (eqb l 1) n)) (sym one))
 
 -- a constructor is its name, then what `fields` reads
 module _ (bytes : List ℕ) (at : ℕ) (c : Read) where

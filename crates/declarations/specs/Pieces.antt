@@ -1,4 +1,5 @@
 -- The pieces of a type's frame and of a constructor's.
+use mathlib.Core.Bool.{Bool}
 use mathlib.Core.List.{List}
 use Prim.Native.Nat.{ℕ}
 use Rattle.scope.specs.Lists.{Text, bit}
@@ -13,6 +14,10 @@ countedBytes = do n ← within 2 16; times n byte
 abbrev pub field : Reader Text
 field = do t ← byte; smallName
 
--- labels 00 or 01, arity 0 to 16 (labels with arity 0 are a fault), fields
+-- arity 0 to 16, with labels 1 to 16, then fields
+abbrev pub fieldsWith : Bool → Reader (List Ref × List Text)
+fieldsWith labelled = do k ← within (bit labelled) 16; fieldsFor labelled k
+
+-- labels 00 or 01, arity and fields
 abbrev pub fields : Reader (List Ref × List Text)
-fields = do labelled ← flag; k ← within (bit labelled) 16; fieldsFor labelled k
+fields = do labelled ← flag; fieldsWith labelled

@@ -1,27 +1,33 @@
 // What a type's frame and a constructor's hold.
 ghost use mathlib.Core.Path.{_≡_};
+ghost use mathlib.Core.Bool.{true};
 ghost use Prim.Native.Nat.{_≤_};
 ghost use lib.ListN.{length};
+ghost use lib.Dec.{eqb};
+ghost use Rattle.scope.specs.Lists.{among};
 ghost use Rattle.scope.specs.Frames.{times, typeFrame, constructorFrame};
 ghost use Rattle.fields.specs.Places.{readAt};
-ghost use Rattle.declarations.specs.Pieces.{countedBytes, field, fields};
+ghost use Rattle.declarations.specs.Pieces.{countedBytes, field, fieldsWith, fields};
+use cells::at8;
 use cells::wide8;
 use fields::Read;
 use fields::byte;
 use fields::name;
 use fields::skip;
 use fields::within;
+use letters::among;
+use rules::is_arity;
 
 // A count from 2 to 16, then so many bytes: a tuple's types.
 fn tuple_type(bytes: &[u8], at: usize) -> Read
     requires { ⌜ at ≤ length (now bytes) ⌝ }
     ensures { λ r. ⌜ r ≡ readAt (now (bytes .entry)) at countedBytes ⌝ }
 {
-    let n = within(bytes, at, 2, 16);
-    let Read::At(from) = n else {
-        return n;
-    };
-    skip(bytes, from, wide8(bytes[at]))
+    let n = at8(bytes, at);
+    if !among(2, 16, n) {
+        return Read::Fault(at);
+    }
+    skip(bytes, at + 1, wide8(n))
 }
 
 // 01 type.
@@ -76,6 +82,22 @@ fn labelled(bytes: &[u8], at: usize, n: usize) -> Read
     Read::At(p)
 }
 
+// Arity and fields, with labels (1) or without (0).
+fn counted(bytes: &[u8], at: usize, labels: u8) -> Read
+    requires { ⌜ at ≤ length (now bytes) ⌝ }
+    requires { ⌜ among 0 1 labels ≡ true ⌝ }
+    ensures { λ r. ⌜ r ≡ readAt (now (bytes .entry)) at (fieldsWith (eqb labels 1)) ⌝ }
+{
+    let n = at8(bytes, at);
+    if !is_arity(labels, n) {
+        return Read::Fault(at);
+    }
+    if labels == 0 {
+        return skip(bytes, at, wide8(n) + 1);
+    }
+    labelled(bytes, at + 1, wide8(n))
+}
+
 // Labels or not, arity, fields.
 fn fields(bytes: &[u8], at: usize) -> Read
     requires { ⌜ at ≤ length (now bytes) ⌝ }
@@ -85,16 +107,7 @@ fn fields(bytes: &[u8], at: usize) -> Read
     let Read::At(from) = f else {
         return f;
     };
-    let labels = bytes[at];
-    let n = within(bytes, from, labels, 16);
-    let Read::At(to) = n else {
-        return n;
-    };
-    let arity = wide8(bytes[from]);
-    if labels == 0 {
-        return skip(bytes, to, arity);
-    }
-    labelled(bytes, to, arity)
+    counted(bytes, from, bytes[at])
 }
 
 // 02 constructor.

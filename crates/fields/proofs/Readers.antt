@@ -4,7 +4,7 @@ use mathlib.Core.List.{List, [], _∷_}
 use mathlib.Core.Bool.{Bool, true, false, cond}
 use Prim.Native.Nat.{ℕ, zero, suc, _+_, _-_, _≤_, _<_}
 use native.Mathlib.Omega.{arith}
-use lib.ListN.{length, getD, take, drop, drop-of-length-le, length-drop}
+use lib.ListN.{length, getD, take, drop, drop-of-length-le, length-drop, List·getD-eq-default}
 use lib.Seq.{drop-drop, drop-length}
 use lib.Dec.{leb, ltb}
 use borrow.Author.Tests.{ltb-true, ltb-false, leb-true, leb-false}
@@ -206,6 +206,28 @@ passed good bytes at q c i e h = go (ltb at (length bytes)) refl (good (getD byt
           inside = l;
           next = sym n;
         }
+
+-- the same of a byte that is 0 past the end, where 0 does not pass
+module _ (good : ℕ → Bool) (none : good 0 ≡ false) (bytes : List ℕ) (at n : ℕ) (is : n ≡ getD bytes at 0) where
+  pub read-stops : at ≤ length bytes → good n ≡ false → Fault at ≡ readAt bytes at (passing good)
+  read-stops i g = go (ltb at (length bytes)) refl
+    where
+      go : (x : Bool) → ltb at (length bytes) ≡ x → Fault at ≡ readAt bytes at (passing good)
+      go true u = passing-stops good bytes at (ltb-true at (length bytes) u) (ap good (sym is) ∙ g)
+      go false u = passing-ends good bytes at i (ltb-false at (length bytes) u)
+
+  pub read-passes : good n ≡ true → Passed good bytes at (at + 1)
+  read-passes g = go (ltb at (length bytes)) refl
+    where
+      go : (x : Bool) → ltb at (length bytes) ≡ x → Passed good bytes at (at + 1)
+      go true u = let l = ltb-true at (length bytes) u in passed good bytes at (at + 1) (At (at + 1)) (omega arith) (passing-goes good bytes at l (ap good (sym is) ∙ g)) refl
+      go false u =
+          let z : n ≡ 0 = is ∙ List·getD-eq-default bytes 0 (ltb-false at (length bytes) u) in
+          let w : true ≡ false = sym g ∙ ap good z ∙ none in
+          clash (cc)
+
+pub passed-reached : (good : ℕ → Bool) (bytes : List ℕ) (at q : ℕ) → Passed good bytes at q → Reached (passing good) bytes at q
+passed-reached good bytes at q x = record { value = getD bytes at 0; reads = x .reads; onward = omega (arith, x .next); inside = omega (arith, x .inside, x .next) }
 
 -- any byte passes no test
 abbrev pub any : ℕ → Bool

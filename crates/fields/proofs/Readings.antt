@@ -2,18 +2,18 @@
 use mathlib.Core.Path.{_≡_, refl, sym, ap, _∙_}
 use mathlib.Core.List.{List, _∷_}
 use mathlib.Core.Bool.{Bool, true, false, cond}
-use Prim.Native.Nat.{ℕ, zero, suc, _-_, _≤_}
+use Prim.Native.Nat.{ℕ, zero, suc, _+_, _-_, _≤_, _<_}
 use native.Mathlib.Omega.{arith}
 use lib.ListN.{length, getD, take, drop}
 use lib.Dec.{eqb}
 use Rattle.scope.specs.Lists.{Text, bit, among}
 use Rattle.scope.specs.Frames as scope
-use Rattle.scope.specs.Frames.{fault, found, Reader, andThen, _>>=_, give, byte, passing, within, flag, times, judging, bigName, smallName, text}
+use Rattle.scope.specs.Frames.{fault, found, Reader, andThen, _>>=_, give, byte, passing, within, flag, times, judging, isUpper, isLower, isSmall, isBig, bigName, smallName, text}
 use Rattle.letters.proofs.Laws.{among-true}
 use Rattle.fields.specs.declared.Read.{Read}
 use Rattle.fields.specs.declared.Read.the-variants.{At, Fault}
 use Rattle.fields.specs.Places.{placed, readAt, letterOf, nameOf}
-use Rattle.fields.proofs.Readers.{Keeps, bind-keeps, passing-keeps, times-keeps, give-keeps, fault-stays, give-stays, goes-on, place-back, Passed, Skipped}
+use Rattle.fields.proofs.Readers.{Keeps, bind-keeps, passing-keeps, times-keeps, give-keeps, fault-stays, give-stays, goes-on, place-back, Passed, read-stops, read-passes, Skipped}
 
 -- the bytes of a name of length n after its first, b
 abbrev afterFirst : Bool → ℕ → ℕ → Reader Text
@@ -34,25 +34,47 @@ unfolding bigName smallName
 name-keeps true = bind-keeps (within 1 32) _ (passing-keeps _) (λ n. bind-keeps (passing _) _ (passing-keeps _) (λ b. bind-keeps (times (n - 1) _) _ (times-keeps (n - 1) _ (passing-keeps _)) (λ bs. give-keeps _)))
 name-keeps false = bind-keeps (within 1 32) _ (passing-keeps _) (λ n. bind-keeps (passing _) _ (passing-keeps _) (λ b. bind-keeps (times (n - 1) _) _ (times-keeps (n - 1) _ (passing-keeps _)) (λ bs. give-keeps _)))
 
-module _ (big : Bool) (bytes : List ℕ) (at : ℕ) (c : Read) where
-  pub name-length : (q : ℕ) → c ≡ readAt bytes at (within 1 32) → c ≡ Fault q → c ≡ readAt bytes at (nameOf big)
-  name-length q e f = fault-stays (length bytes) (within 1 32 (drop at bytes)) (afterLength big) c q e f ∙ ap (placed (length bytes)) (name-is big (drop at bytes))
+-- 0 stands in no name
+pub letter-zero : (big first : Bool) → letterOf big first 0 ≡ false
+unfolding isSmall isBig
+letter-zero true true = refl
+letter-zero true false = refl
+letter-zero false true = refl
+letter-zero false false = refl
 
-  pub name-first : (q p : ℕ) → Passed (among 1 32) bytes at q → c ≡ readAt bytes q (passing (letterOf big true)) → c ≡ Fault p → c ≡ readAt bytes at (nameOf big)
-  name-first q p x e f =
-      fault-stays (length bytes) (passing (letterOf big true) (drop q bytes)) (afterFirst big (getD bytes at 0)) c p e f
-      ∙ sym (goes-on (within 1 32) (afterLength big) bytes at q (getD bytes at 0) (x .reads))
+-- A name of n bytes, of which b is the first; past the end both are 0
+module _ (big : Bool) (bytes : List ℕ) (at n : ℕ) (inside : at ≤ length bytes) (is : n ≡ getD bytes at 0) where
+  pub name-length : among 1 32 n ≡ false → Fault at ≡ readAt bytes at (nameOf big)
+  name-length g =
+      fault-stays (length bytes) (within 1 32 (drop at bytes)) (afterLength big) (Fault at) at (read-stops (among 1 32) refl bytes at n is inside g) refl
       ∙ ap (placed (length bytes)) (name-is big (drop at bytes))
 
-  -- whatever its length
-  pub name-others : (q p n : ℕ) → Passed (among 1 32) bytes at q → Passed (letterOf big true) bytes q p → n ≡ getD bytes at 0 → c ≡ readAt bytes p (times (n - 1) (passing (letterOf big false))) → c ≡ readAt bytes at (nameOf big)
-  name-others q p n x y m e =
-      e
-      ∙ ap (λ (k : ℕ). readAt bytes p (times (k - 1) (passing (letterOf big false)))) m
-      ∙ sym (give-stays (length bytes) (times (getD bytes at 0 - 1) (passing (letterOf big false)) (drop p bytes)) (λ bs. getD bytes q 0 ∷ bs))
-      ∙ sym (goes-on (passing (letterOf big true)) (afterFirst big (getD bytes at 0)) bytes q p (getD bytes q 0) (y .reads))
-      ∙ sym (goes-on (within 1 32) (afterLength big) bytes at q (getD bytes at 0) (x .reads))
-      ∙ ap (placed (length bytes)) (name-is big (drop at bytes))
+  pub name-counted : among 1 32 n ≡ true → (0 < n) × (at < length bytes)
+  name-counted g = (among-true 1 32 n g .0, read-passes (among 1 32) refl bytes at n is g .inside)
+
+  module _ (b : ℕ) (first : b ≡ getD bytes (at + 1) 0) (counted : among 1 32 n ≡ true) where
+    pub name-first : letterOf big true b ≡ false → Fault (at + 1) ≡ readAt bytes at (nameOf big)
+    name-first g =
+        let x = read-passes (among 1 32) refl bytes at n is counted in
+        fault-stays (length bytes) (passing (letterOf big true) (drop (at + 1) bytes)) (afterFirst big (getD bytes at 0)) (Fault (at + 1)) (at + 1) (read-stops (letterOf big true) (letter-zero big true) bytes (at + 1) b first (omega (arith, x .inside)) g) refl
+        ∙ sym (goes-on (within 1 32) (afterLength big) bytes at (at + 1) (getD bytes at 0) (x .reads))
+        ∙ ap (placed (length bytes)) (name-is big (drop at bytes))
+
+    pub name-begun : letterOf big true b ≡ true → at + 2 ≤ length bytes
+    name-begun g = let y = read-passes (letterOf big true) (letter-zero big true) bytes (at + 1) b first g in omega (arith, y .inside)
+
+    pub name-others : (c : Read) (m : ℕ) → m ≡ n → letterOf big true b ≡ true → c ≡ readAt bytes (at + 2) (times (m - 1) (passing (letterOf big false))) → c ≡ readAt bytes at (nameOf big)
+    name-others c m w g e =
+        let x = read-passes (among 1 32) refl bytes at n is counted in
+        let y = read-passes (letterOf big true) (letter-zero big true) bytes (at + 1) b first g in
+        let two : at + 2 ≡ at + 1 + 1 = omega arith in
+        e
+        ∙ ap (λ (p : ℕ). readAt bytes p (times (m - 1) (passing (letterOf big false)))) two
+        ∙ ap (λ (k : ℕ). readAt bytes (at + 1 + 1) (times (k - 1) (passing (letterOf big false)))) (w ∙ is)
+        ∙ sym (give-stays (length bytes) (times (getD bytes at 0 - 1) (passing (letterOf big false)) (drop (at + 1 + 1) bytes)) (λ bs. getD bytes (at + 1) 0 ∷ bs))
+        ∙ sym (goes-on (passing (letterOf big true)) (afterFirst big (getD bytes at 0)) bytes (at + 1) (at + 1 + 1) (getD bytes (at + 1) 0) (y .reads))
+        ∙ sym (goes-on (within 1 32) (afterLength big) bytes at (at + 1) (getD bytes at 0) (x .reads))
+        ∙ ap (placed (length bytes)) (name-is big (drop at bytes))
 
 -- A text of lo to 64 bytes
 module _ (lo : ℕ) (good : Text → Bool) (bytes : List ℕ) (at : ℕ) (c : Read) where

@@ -5,6 +5,7 @@ ghost use Prim.Native.Nat.{_≤_};
 ghost use lib.ListN.{length};
 ghost use Rattle.scope.specs.Frames.{byte, passing, within, times, text};
 ghost use Rattle.fields.specs.Places.{readAt, letterOf, nameOf, judged};
+use cells::at8;
 use cells::wide8;
 use letters::among;
 use letters::is_big;
@@ -12,6 +13,7 @@ use letters::is_decimal;
 use letters::is_lower;
 use letters::is_small;
 use letters::is_upper;
+use rules::is_name_length;
 
 pub enum Read {
     At(usize),
@@ -70,20 +72,6 @@ fn is_letter(b: u8, big: bool, first: bool) -> bool
     is_small(b)
 }
 
-// One byte of a name.
-fn letter(bytes: &[u8], at: usize, big: bool, first: bool) -> Read
-    requires { ⌜ at ≤ length (now bytes) ⌝ }
-    ensures { λ r. ⌜ r ≡ readAt (now (bytes .entry)) at (passing (letterOf big first)) ⌝ }
-{
-    if bytes.len() <= at {
-        return Read::Fault(at);
-    }
-    if !is_letter(bytes[at], big, first) {
-        return Read::Fault(at);
-    }
-    Read::At(at + 1)
-}
-
 // n bytes of a name after its first.
 fn letters(bytes: &[u8], at: usize, n: usize, big: bool) -> Read
     requires { ⌜ at ≤ length (now bytes) ⌝ }
@@ -92,11 +80,10 @@ fn letters(bytes: &[u8], at: usize, n: usize, big: bool) -> Read
     let mut p = at;
     let mut left = n;
     while 0 < left {
-        let r = letter(bytes, p, big, false);
-        let Read::At(q) = r else {
-            return r;
-        };
-        p = q;
+        if !is_letter(at8(bytes, p), big, false) {
+            return Read::Fault(p);
+        }
+        p += 1;
         left -= 1;
     }
     Read::At(p)
@@ -107,15 +94,14 @@ pub fn name(bytes: &[u8], at: usize, big: bool) -> Read
     requires { ⌜ at ≤ length (now bytes) ⌝ }
     ensures { λ r. ⌜ r ≡ readAt (now (bytes .entry)) at (nameOf big) ⌝ }
 {
-    let n = within(bytes, at, 1, 32);
-    let Read::At(from) = n else {
-        return n;
-    };
-    let f = letter(bytes, from, big, true);
-    let Read::At(next) = f else {
-        return f;
-    };
-    letters(bytes, next, wide8(bytes[at]) - 1, big)
+    let n = at8(bytes, at);
+    if !is_name_length(n) {
+        return Read::Fault(at);
+    }
+    if !is_letter(at8(bytes, at + 1), big, true) {
+        return Read::Fault(at + 1);
+    }
+    letters(bytes, at + 2, wide8(n) - 1, big)
 }
 
 // A text: its length from lo to 64, then its bytes; decimal text is judged whole.

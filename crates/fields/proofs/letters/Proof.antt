@@ -1,12 +1,15 @@
 -- `fields::letters` meets its contract: the bytes still to read from p on reach what all reach.
-use Prim.Native.Nat.{_≤_}
+use Prim.Native.Nat.{_+_, _≤_}
 use mathlib.Core.Path.{_≡_, refl, sym, _∙_}
 use mathlib.Core.Bool.{false}
+use native.Mathlib.Omega.{arith}
 use lib.ListN.{length}
+use borrow.Author.Tests.{not-true, not-false}
 use Rattle.scope.specs.Frames.{passing, times}
+use Rattle.fields.specs.declared.Read.the-variants.{Fault}
 use Rattle.fields.specs.Places.{readAt, letterOf}
-use Rattle.fields.proofs.Readers.{passing-keeps, reached, times-stops, times-goes, times-done}
-use borrow.Author.Needs.{needs}
+use Rattle.fields.proofs.Readers.{read-stops, read-passes, passed-reached, times-stops, times-goes, times-done}
+use Rattle.fields.proofs.Readings.{letter-zero}
 use Rattle.fields.proofs.letters.Statement.{statement}
 use Rattle.fields.proofs.letters.Tie as tie
 
@@ -20,35 +23,47 @@ loop-holds : tie.Need-loop-holds Inv-loop μ-loop
 loop-holds c =
     (c .before .pre, refl)
 
-letter-requires : tie.Need-letter-requires Inv-loop μ-loop
-letter-requires c κs =
-    c .before .loop .inv .0
+at8-requires : tie.Need-at8-requires Inv-loop μ-loop
+at8-requires c κs =
+    tt
 
-enum-known-r : tie.Need-enum-known-r Inv-loop μ-loop
-enum-known-r c = search needs
-
-enum-told : tie.Need-enum-told Inv-loop μ-loop
-enum-told c = search needs
+is-letter-requires : tie.Need-is-letter-requires Inv-loop μ-loop
+is-letter-requires c κs =
+    tt
 
 returns : tie.Need-returns Inv-loop μ-loop
 returns c =
-    times-stops (passing (letterOf (c .before .before .before .before .before .before .args .big) false)) (c .before .before .before .before .before .before .args .bytes .now) (c .before .before .before .before .loop .p) (c .before .before .before .before .loop .left) (c .before .before .letter .result) (c .enum-told .given .0 .0) (c .before .before .before .loop-test .taken) (c .before .before .letter .ensures) (c .enum-told .given .1) ∙ c .before .before .before .before .loop .inv .1
+    let a = c .before .before .before .before .before .before .args in
+    let l = c .before .before .before .before .loop in
+    let good = letterOf (a .big) false in
+    times-stops (passing good) (a .bytes .now) (l .p) (l .left) (Fault (l .p)) (l .p) (c .before .before .before .loop-test .taken) (read-stops good (letter-zero (a .big) false) (a .bytes .now) (l .p) (c .before .before .at8 .result) (c .before .before .at8 .ensures) (l .inv .0) (sym (c .before .is-letter .ensures) ∙ not-true _ (c .if1 .taken))) refl ∙ l .inv .1
+
+add-p : tie.Need-add-p Inv-loop μ-loop
+add-p c =
+    let l = c .before .before .before .before .loop in
+    omega (arith, c .before .before .before .before .before .before, l .inv .0)
 
 sub-left : tie.Need-sub-left Inv-loop μ-loop
-sub-left c = search needs
+sub-left c =
+    omega arith
 
 loop-less : tie.Need-loop-less Inv-loop μ-loop
-loop-less c = search needs
+loop-less c =
+    omega arith
 
 loop-again : tie.Need-loop-again Inv-loop μ-loop
 loop-again c =
-    let good = letterOf (c .before .before .before .before .before .before .before .args .big) false in
-    let x = reached (passing good) (passing-keeps good) (c .before .before .before .before .before .before .before .args .bytes .now) (c .before .before .before .before .before .loop .p) (c .before .r .given .0 .0) (c .before .before .before .letter .result) (c .before .before .before .before .before .loop .inv .0) (c .before .before .before .letter .ensures) (c .before .r .given .1) in
-    (x .inside, sym (times-goes (passing good) (c .before .before .before .before .before .before .before .args .bytes .now) (c .before .before .before .before .before .loop .p) (c .before .before .before .before .before .loop .left) (c .before .r .given .0 .0) (c .before .before .before .before .loop-test .taken) x) ∙ c .before .before .before .before .before .loop .inv .1)
+    let a = c .before .before .before .before .before .before .args in
+    let l = c .before .before .before .before .loop in
+    let good = letterOf (a .big) false in
+    let x = read-passes good (letter-zero (a .big) false) (a .bytes .now) (l .p) (c .before .before .at8 .result) (c .before .before .at8 .ensures) (sym (c .before .is-letter .ensures) ∙ not-false _ (c .if1 .left)) in
+    (omega (arith, x .inside), sym (times-goes (passing good) (a .bytes .now) (l .p) (l .left) (l .p + 1) (c .before .before .before .loop-test .taken) (passed-reached good (a .bytes .now) (l .p) (l .p + 1) x)) ∙ l .inv .1)
 
 returns-2 : tie.Need-returns-2 Inv-loop μ-loop
 returns-2 c =
-    times-done (passing (letterOf (c .before .before .before .args .big) false)) (c .before .before .before .args .bytes .now) (c .before .loop .p) (c .before .loop .left) (c .loop-test .left) (c .before .loop .inv .0) ∙ c .before .loop .inv .1
+    let a = c .before .before .before .args in
+    let l = c .before .loop in
+    times-done (passing (letterOf (a .big) false)) (a .bytes .now) (l .p) (l .left) (c .loop-test .left) (l .inv .0) ∙ l .inv .1
 
 pub letters-spec : {M : Type 1} → statement M
 letters-spec =
@@ -57,10 +72,10 @@ letters-spec =
     Inv-loop
     μ-loop
     loop-holds
-    letter-requires
-    enum-known-r
-    enum-told
+    at8-requires
+    is-letter-requires
     returns
+    add-p
     sub-left
     loop-less
     loop-again

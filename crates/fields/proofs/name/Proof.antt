@@ -1,69 +1,75 @@
 -- `fields::name` meets its contract: its length, its first byte, the others.
-use mathlib.Core.Bool.{true}
-use lib.ListN.{getD}
-use Rattle.scope.specs.Lists.{among}
-use Rattle.fields.specs.Places.{letterOf}
-use Rattle.letters.proofs.Laws.{among-true}
-use Rattle.fields.proofs.Readers.{Passed, passed}
-use Rattle.fields.proofs.Readings.{name-length, name-first, name-others}
-use borrow.Author.Needs.{needs}
+use mathlib.Core.Path.{sym, _∙_}
 use native.Mathlib.Omega.{arith}
+use borrow.Author.Tests.{not-true, not-false}
+use Rattle.fields.proofs.Readings.{name-length, name-counted, name-first, name-begun, name-others}
+use borrow.Author.Needs.{needs}
 use Rattle.fields.proofs.name.Statement.{statement}
 use Rattle.fields.proofs.name.Tie as tie
 
-length-read : (c : tie.After-n) → Passed (among 1 32) (c .before .before .before .before .args .bytes .now) (c .before .before .before .before .args .at) (c .n .given .0 .0)
-length-read c =
-    passed (among 1 32) (c .before .before .before .before .args .bytes .now) (c .before .before .before .before .args .at) (c .n .given .0 .0) (c .before .before .within .result) (c .before .before .before .before .pre) (c .before .before .within .ensures) (c .n .given .1)
+at8-requires : tie.Need-at8-requires
+at8-requires c κs = search needs
 
-first-read : (c : tie.After-f) → Passed (letterOf (c .before .before .before .before .before .before .before .before .args .big) true) (c .before .before .before .before .before .before .before .before .args .bytes .now) (c .before .before .before .before .n .given .0 .0) (c .f .given .0 .0)
-first-read c =
-    let x = length-read (c .before .before .before .before) in
-    passed (letterOf (c .before .before .before .before .before .before .before .before .args .big) true) (c .before .before .before .before .before .before .before .before .args .bytes .now) (c .before .before .before .before .n .given .0 .0) (c .f .given .0 .0) (c .before .before .letter .result) (omega arith) (c .before .before .letter .ensures) (c .f .given .1)
+is-name-length-requires : tie.Need-is-name-length-requires
+is-name-length-requires c κs = search needs
 
 returns : tie.Need-returns
 returns c =
-    name-length (c .before .before .before .before .args .big) (c .before .before .before .before .args .bytes .now) (c .before .before .before .before .args .at) (c .before .before .within .result) (c .enum-told .given .0 .0) (c .before .before .within .ensures) (c .enum-told .given .1)
+    let a = c .before .before .before .before .args in
+    name-length (a .big) (a .bytes .now) (a .at) (c .before .before .at8 .result) (c .before .before .before .before .pre) (c .before .before .at8 .ensures) (sym (c .before .is-name-length .ensures) ∙ not-true _ (c .if1 .taken))
 
-letter-requires : tie.Need-letter-requires
-letter-requires c κs =
-    let x = length-read (c .before) in
-    omega arith
+add-at8 : tie.Need-add-at8
+add-at8 c = search needs
+
+at8-requires-2 : tie.Need-at8-requires-2
+at8-requires-2 c κs = search needs
+
+is-letter-requires : tie.Need-is-letter-requires
+is-letter-requires c κs = search needs
+
+add-t9 : tie.Need-add-t9
+add-t9 c = search needs
 
 returns-2 : tie.Need-returns-2
 returns-2 c =
-    name-first (c .before .before .before .before .before .before .before .before .args .big) (c .before .before .before .before .before .before .before .before .args .bytes .now) (c .before .before .before .before .before .before .before .before .args .at) (c .before .before .letter .result) (c .before .before .before .before .n .given .0 .0) (c .enum-told2 .given .0 .0) (length-read (c .before .before .before .before)) (c .before .before .letter .ensures) (c .enum-told2 .given .1)
+    let a = c .before .before .before .before .before .before .before .args in
+    name-first (a .big) (a .bytes .now) (a .at) (c .before .before .before .before .before .at8 .result) (c .before .before .before .before .before .before .before .pre) (c .before .before .before .before .before .at8 .ensures) (c .before .before .at82 .result) (c .before .before .at82 .ensures) (sym (c .before .before .before .before .is-name-length .ensures) ∙ not-false _ (c .before .before .before .if1 .left)) (sym (c .before .is-letter .ensures) ∙ not-true _ (c .if2 .taken))
 
-shared-slice-read-wide8 : tie.Need-shared-slice-read-wide8
-shared-slice-read-wide8 c =
-    length-read (c .before .before .before .before .before .before) .inside
+add-letters : tie.Need-add-letters
+add-letters c = search needs
+
+wide8-requires : tie.Need-wide8-requires
+wide8-requires c κs = search needs
 
 sub-letters : tie.Need-sub-letters
 sub-letters c =
-    omega (arith, among-true 1 32 (getD (c .before .before .before .before .before .before .before .before .before .before .before .args .bytes .now) (c .before .before .before .before .before .before .before .before .before .before .before .args .at) 0) (length-read (c .before .before .before .before .before .before .before) .passes) .0, c .wide8 .ensures)
+    let a = c .before .before .before .before .before .before .before .before .args in
+    omega (arith, name-counted (a .big) (a .bytes .now) (a .at) (c .before .before .before .before .before .before .at8 .result) (c .before .before .before .before .before .before .before .before .pre) (c .before .before .before .before .before .before .at8 .ensures) (sym (c .before .before .before .before .before .is-name-length .ensures) ∙ not-false _ (c .before .before .before .before .if1 .left)) .0, c .wide8 .ensures)
 
 letters-requires : tie.Need-letters-requires
 letters-requires c κs =
-    let y = first-read (c .before .before .before) in
-    omega arith
+    let a = c .before .before .before .before .before .before .before .before .args in
+    name-begun (a .big) (a .bytes .now) (a .at) (c .before .before .before .before .before .before .at8 .result) (c .before .before .before .before .before .before .before .before .pre) (c .before .before .before .before .before .before .at8 .ensures) (c .before .before .before .at82 .result) (c .before .before .before .at82 .ensures) (sym (c .before .before .before .before .before .is-name-length .ensures) ∙ not-false _ (c .before .before .before .before .if1 .left)) (sym (c .before .before .is-letter .ensures) ∙ not-false _ (c .before .if2 .left))
 
 returns-3 : tie.Need-returns-3
 returns-3 c =
-    name-others (c .before .before .before .before .before .before .before .before .before .before .before .before .args .big) (c .before .before .before .before .before .before .before .before .before .before .before .before .args .bytes .now) (c .before .before .before .before .before .before .before .before .before .before .before .before .args .at) (c .letters .result) (c .before .before .before .before .before .before .before .before .n .given .0 .0) (c .before .before .before .before .f .given .0 .0) (c .before .wide8 .result) (length-read (c .before .before .before .before .before .before .before .before)) (first-read (c .before .before .before .before)) (c .before .wide8 .ensures) (c .letters .ensures)
+    let a = c .before .before .before .before .before .before .before .before .before .args in
+    name-others (a .big) (a .bytes .now) (a .at) (c .before .before .before .before .before .before .before .at8 .result) (c .before .before .before .before .before .before .before .before .before .pre) (c .before .before .before .before .before .before .before .at8 .ensures) (c .before .before .before .before .at82 .result) (c .before .before .before .before .at82 .ensures) (sym (c .before .before .before .before .before .before .is-name-length .ensures) ∙ not-false _ (c .before .before .before .before .before .if1 .left)) (c .letters .result) (c .before .wide8 .result) (c .before .wide8 .ensures) (sym (c .before .before .before .is-letter .ensures) ∙ not-false _ (c .before .before .if2 .left)) (c .letters .ensures)
 
 pub name-spec : {M : Type 1} → statement M
 name-spec =
     tie.close
     (tie.spec
-    (λ c κs. search needs)
-    (λ c. search needs)
-    (λ c. search needs)
+    at8-requires
+    is-name-length-requires
     returns
-    letter-requires
-    (λ c. search needs)
-    (λ c. search needs)
+    add-at8
+    at8-requires-2
+    is-letter-requires
+    add-t9
     returns-2
-    shared-slice-read-wide8
-    (λ c κs. search needs)
+    add-letters
+    wide8-requires
     sub-letters
     letters-requires
     returns-3)
