@@ -15,8 +15,8 @@ use fields::byte;
 use fields::name;
 use fields::skip;
 use fields::within;
+use lengths::is_arity;
 use letters::among;
-use rules::is_arity;
 
 // A count from 2 to 16, then so many bytes: a tuple's types.
 fn tuple_type(bytes: &[u8], at: usize) -> Read

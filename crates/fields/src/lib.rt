@@ -7,13 +7,13 @@ ghost use Rattle.scope.specs.Frames.{byte, passing, within, times, text};
 ghost use Rattle.fields.specs.Places.{readAt, letterOf, nameOf, judged};
 use cells::at8;
 use cells::wide8;
+use lengths::is_name_length;
 use letters::among;
 use letters::is_big;
 use letters::is_decimal;
 use letters::is_lower;
 use letters::is_small;
 use letters::is_upper;
-use rules::is_name_length;
 
 pub enum Read {
     At(usize),

@@ -8,9 +8,8 @@ ghost use lib.Dec.{ltb};
 ghost use Rattle.scope.specs.Lists.{all};
 ghost use Rattle.scope.specs.Lines.{ended, isHex, hex, unhex, isLine};
 ghost use Rattle.hex.specs.Digits.{digits, Lined};
+use lengths::is_line_length;
 use letters::all_digits;
-use rules::has_feed;
-use rules::is_line_length;
 
 pub enum Line {
     Good { next: usize, to: usize },
@@ -58,7 +57,7 @@ fn is_line(file: &[u8], from: usize, end: usize) -> bool
     requires { ⌜ (from ≤ end) × (end ≤ length (now file)) ⌝ }
     ensures { λ r. ⌜ r ≡ (ltb end (length (now (file .entry))) && isLine (ended (take (end - from) (drop from (now (file .entry)))))) ⌝ }
 {
-    if !has_feed(end, file.len()) {
+    if file.len() <= end {
         return false;
     }
     if !is_line_length(end - from) {

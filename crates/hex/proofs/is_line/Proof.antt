@@ -1,18 +1,17 @@
 -- `hex::is_line` meets its contract, one test after another.
 use mathlib.Core.Path.{sym, _∙_}
-use borrow.Author.Tests.{not-true, not-false}
+use native.Mathlib.Omega.{arith}
+use lib.ListN.{length}
+use borrow.Author.Tests.{not-true, not-false, lt-ltb, le-ltb}
 use Rattle.hex.proofs.Hexadecimal.{no-feed, no-length, hex-line}
 use borrow.Author.Needs.{needs}
 use Rattle.hex.proofs.is_line.Statement.{statement}
 use Rattle.hex.proofs.is_line.Tie as tie
 
-has-feed-requires : tie.Need-has-feed-requires
-has-feed-requires c κs = search needs
-
 returns : tie.Need-returns
 returns c =
-    let a = c .before .before .before .args in
-    no-feed (a .file .now) (a .from) (a .end) (c .before .before .before .pre .0) (c .before .before .before .pre .1) (sym (not-true _ (c .if1 .taken)) ∙ c .before .has-feed .ensures)
+    let a = c .before .before .args in
+    no-feed (a .file .now) (a .from) (a .end) (c .before .before .pre .0) (c .before .before .pre .1) (sym (le-ltb (a .end) (length (a .file .now)) (c .if1 .taken)))
 
 sub-is-line-length : tie.Need-sub-is-line-length
 sub-is-line-length c = search needs
@@ -22,8 +21,8 @@ is-line-length-requires c κs = search needs
 
 returns-2 : tie.Need-returns-2
 returns-2 c =
-    let a = c .before .before .before .before .before .args in
-    no-length (a .file .now) (a .from) (a .end) (c .before .before .before .before .before .pre .0) (c .before .before .before .before .before .pre .1) (sym (not-false _ (c .before .before .if1 .left)) ∙ c .before .before .before .has-feed .ensures) (sym (not-true _ (c .if2 .taken)) ∙ c .before .is-line-length .ensures)
+    let a = c .before .before .before .before .args in
+    no-length (a .file .now) (a .from) (a .end) (c .before .before .before .before .pre .0) (c .before .before .before .before .pre .1) (sym (lt-ltb (a .end) (length (a .file .now)) (omega (arith, c .before .before .if1)))) (sym (not-true _ (c .if2 .taken)) ∙ c .before .is-line-length .ensures)
 
 sub-all-digits : tie.Need-sub-all-digits
 sub-all-digits c = search needs
@@ -39,14 +38,13 @@ all-digits-requires c κs = search needs
 
 returns-3 : tie.Need-returns-3
 returns-3 c =
-    let a = c .before .before .before .before .before .before .before .args in
-    c .all-digits .ensures ∙ hex-line (a .file .now) (a .from) (a .end) (c .before .before .before .before .before .before .before .pre .0) (c .before .before .before .before .before .before .before .pre .1) (sym (not-false _ (c .before .before .before .before .if1 .left)) ∙ c .before .before .before .before .before .has-feed .ensures) (sym (not-false _ (c .before .before .if2 .left)) ∙ c .before .before .before .is-line-length .ensures)
+    let a = c .before .before .before .before .before .before .args in
+    c .all-digits .ensures ∙ hex-line (a .file .now) (a .from) (a .end) (c .before .before .before .before .before .before .pre .0) (c .before .before .before .before .before .before .pre .1) (sym (lt-ltb (a .end) (length (a .file .now)) (omega (arith, c .before .before .before .before .if1)))) (sym (not-false _ (c .before .before .if2 .left)) ∙ c .before .before .before .is-line-length .ensures)
 
 pub is-line-spec : {M : Type 1} → statement M
 is-line-spec =
     tie.close
     (tie.spec
-    has-feed-requires
     returns
     sub-is-line-length
     is-line-length-requires

@@ -1,8 +1,8 @@
--- `rules::is_name_length` meets its contract: none, or some and not too many.
+-- `lengths::is_name_length` meets its contract: none, or some and not too many.
 use native.Mathlib.Omega.{arith}
-use Rattle.rules.proofs.Decisions.{among-below, among-above}
-use Rattle.rules.proofs.is_name_length.Statement.{statement}
-use Rattle.rules.proofs.is_name_length.Tie as tie
+use Rattle.lengths.proofs.Decisions.{among-below, among-above}
+use Rattle.lengths.proofs.is_name_length.Statement.{statement}
+use Rattle.lengths.proofs.is_name_length.Tie as tie
 
 returns : tie.Need-returns
 returns c = among-below 1 32 (c .before .args .n) (omega (arith, c .if1 .taken))

@@ -1,8 +1,8 @@
--- `rules::is_line_length` meets its contract, one test after another.
+-- `lengths::is_line_length` meets its contract, one test after another.
 use native.Mathlib.Omega.{arith}
-use Rattle.rules.proofs.Decisions.{line-empty, line-long, line-even}
-use Rattle.rules.proofs.is_line_length.Statement.{statement}
-use Rattle.rules.proofs.is_line_length.Tie as tie
+use Rattle.lengths.proofs.Decisions.{line-empty, line-long, line-even}
+use Rattle.lengths.proofs.is_line_length.Statement.{statement}
+use Rattle.lengths.proofs.is_line_length.Tie as tie
 
 returns : tie.Need-returns
 returns c = line-empty (c .before .args .n) (c .if1 .taken)

@@ -1,7 +1,7 @@
--- `rules::is_arity` meets its contract: too few with labels, or enough and not too many.
-use Rattle.rules.proofs.Decisions.{among-below, among-above}
-use Rattle.rules.proofs.is_arity.Statement.{statement}
-use Rattle.rules.proofs.is_arity.Tie as tie
+-- `lengths::is_arity` meets its contract: too few with labels, or enough and not too many.
+use Rattle.lengths.proofs.Decisions.{among-below, among-above}
+use Rattle.lengths.proofs.is_arity.Statement.{statement}
+use Rattle.lengths.proofs.is_arity.Tie as tie
 
 returns : tie.Need-returns
 returns c = among-below (c .before .args .labels) 16 (c .before .args .n) (c .if1 .taken)

@@ -1,0 +1,2 @@
+-- What the tests decide.
+pub mod Decisions
