@@ -70,15 +70,15 @@ fn walk(
 
 // The block that the slices hold, judged: refusal 10, then the report or 11.
 pub fn judged(
-    bytes: &[u8],
-    kinds: &[u8],
-    counts: &[u8],
-    arities: &[u8],
-    starts: &[u16],
-    names: &[u16],
-    labels: &[u16],
-    nodes: &[u16],
-    left: &[u16],
+    bytes: &[u8; 24576],
+    kinds: &[u8; 64],
+    counts: &[u8; 64],
+    arities: &[u8; 2048],
+    starts: &[u16; 2048],
+    names: &[u16; 2048],
+    labels: &[u16; 5120],
+    nodes: &[u16; 4160],
+    left: &[u16; 4160],
     rows: &[u16],
     scratch: &mut [u16],
     report: &mut [u8],
@@ -88,6 +88,9 @@ pub fn judged(
     ensures { λ r. ⌜ ((b : Block) → Holds (lent (now (bytes .entry)) (now (kinds .entry)) (now (counts .entry)) (now (arities .entry)) (now (starts .entry)) (now (names .entry)) (now (labels .entry)) (now (nodes .entry)) (now (left .entry)) (now (rows .entry))) b → Given (judgedIn (length (now (report .entry))) (parsed b)) r (now (report .entry)) (now (report .exit))) ⌝ }
     ensures { λ _. ⌜ now (scratch .exit) ≡ replicate (length (now (scratch .entry))) 0 ⌝ }
 {
+    // What the walks and the report both read, as slices once.
+    let bytes: &[u8] = bytes;
+    let arities: &[u8] = arities;
     let mut verdicts = [0u8; 64];
     let mut out = [0u16; 4096];
     let w = walk(
