@@ -22,7 +22,7 @@ use Rattle.admitting.specs.declared.Kind as kind
 use Rattle.admitting.specs.Checked.{checked, kindOf}
 use Rattle.admitting.proofs.Checks.{begins}
 use Rattle.reading.specs.Said.{Held, held, Says, Stepped, stops}
-use Rattle.reading.specs.Enters.{EntersCtor, EntersSubject, EntersClause, Ended}
+use Rattle.reading.specs.Enters.{EntersCtor, EntersSubject, EntersClause, ForClause, EntersUse, aSubject, aClause, Ended}
 use Rattle.reading.proofs.Framing.{Passed, passed, type-frame, constructor-frame, subject-frame, clause-frame, end-frame, byte-is, framed-is, above, some-type, last-is, sound-clause, sound-end}
 use Rattle.reading.proofs.Entering.{sound-parts, type-steps, ctor-steps, subject-steps, clause-steps, end-steps}
 
@@ -40,14 +40,14 @@ unfolding roomIn
 room-clause s last e = ltb-true (s .clauses) 64 e
 
 -- the only other kind
-is-end : (k : ℕ) → isKind k ≡ true → (k ≡ 1 → ⊥) → (k ≡ 2 → ⊥) → (k ≡ 3 → ⊥) → (k ≡ 4 → ⊥) → k ≡ 5
-is-end zero i a b c d = absurd (omega (arith, leb-true 1 0 (both (leb 1 0) (leb 0 5) i .0)))
-is-end (suc zero) i a b c d = absurd (a refl)
-is-end (suc (suc zero)) i a b c d = absurd (b refl)
-is-end (suc (suc (suc zero))) i a b c d = absurd (c refl)
-is-end (suc (suc (suc (suc zero)))) i a b c d = absurd (d refl)
-is-end (suc (suc (suc (suc (suc zero))))) i a b c d = refl
-is-end (suc (suc (suc (suc (suc (suc k)))))) i a b c d = absurd (omega (arith, leb-true (suc (suc (suc (suc (suc (suc k)))))) 5 (both (leb 1 (suc (suc (suc (suc (suc (suc k))))))) (leb (suc (suc (suc (suc (suc (suc k)))))) 5) i .1)))
+is-clause : (k : ℕ) → isKind k ≡ true → (k ≡ 1 → ⊥) → (k ≡ 2 → ⊥) → (k ≡ 5 → ⊥) → (k ≡ 3 → ⊥) → k ≡ 4
+is-clause zero i a b c d = absurd (omega (arith, leb-true 1 0 (both (leb 1 0) (leb 0 5) i .0)))
+is-clause (suc zero) i a b c d = absurd (a refl)
+is-clause (suc (suc zero)) i a b c d = absurd (b refl)
+is-clause (suc (suc (suc zero))) i a b c d = absurd (d refl)
+is-clause (suc (suc (suc (suc zero)))) i a b c d = refl
+is-clause (suc (suc (suc (suc (suc zero))))) i a b c d = absurd (c refl)
+is-clause (suc (suc (suc (suc (suc (suc k)))))) i a b c d = absurd (omega (arith, leb-true (suc (suc (suc (suc (suc (suc k)))))) 5 (both (leb 1 (suc (suc (suc (suc (suc (suc k))))))) (leb (suc (suc (suc (suc (suc (suc k)))))) 5) i .1)))
 
 -- the kind that was found, or the refusal, by the answer to the tests
 kind-from : (x : scope.Step Frame) (b k : ℕ) → kindOf x b ≡ kind.the-variants.Is k → (k ≡ b) × ((f : Frame) × (x ≡ ok f))
@@ -95,8 +95,8 @@ module _ {h : Held} {s : State} {σ : scope.State} (w : Says h s σ) (last : ℕ
         let r = room-ctor s last (p .roomHere) in
         (t, (r .0, omega (arith, lastIs t, r .1)))
 
-    pub clause-asks : k ≡ 4 → length (h .bytes) ≤ 24576 → length (h .bytes) ≤ at + 640 → (stack : List ℕ) → 1920 ≤ length stack → Ready (h .bytes) (at + 1) (s .subject) (h .fields) stack (h .nodes) (s .used)
-    clause-asks e short line stack long =
+    clause-ready : k ≡ 4 → length (h .bytes) ≤ 24576 → length (h .bytes) ≤ at + 640 → (stack : List ℕ) → 1920 ≤ length stack → Ready (h .bytes) (at + 1) (s .subject) (h .fields) stack (h .nodes) (s .used)
+    clause-ready e short line stack long =
         let z = w .sized in
         let p = past 4 e in
         let c = clause-frame (drop (at + 1) (h .bytes)) f (p .reads) in
@@ -113,8 +113,14 @@ module _ {h : Held} {s : State} {σ : scope.State} (w : Says h s σ) (last : ℕ
           room = omega (arith, z .nodesLong, w .rowsAre .packed, w .rowsAre .short, w .rowsAre .few);
         }
 
-    pub clause-few : k ≡ 4 → (s .used ≡ s .count + s .clauses) × ((s .clauses < 64) × (s .count ≤ 4096))
-    clause-few e = (w .rowsAre .packed ∙ ap (λ (n : ℕ). s .count + n) (sym (w .clausesAre)), (room-clause s last (past 4 e .roomHere), w .rowsAre .short))
+    -- a frame that is none of the others and not the subject's is a clause's
+    other : (k ≡ 1 → ⊥) → (k ≡ 2 → ⊥) → (k ≡ 5 → ⊥) → (k ≡ 3 → ⊥) → k ≡ 4
+    other a b c d = is-clause k (past k refl .known) a b c d
+
+    pub use-asks : (k ≡ 1 → ⊥) → (k ≡ 2 → ⊥) → (k ≡ 5 → ⊥) → length (h .bytes) ≤ 24576 → length (h .bytes) ≤ at + 640 → (k ≡ 3 → ⊥) → ForClause (h .bytes) (at + 1) s (h .fields) (h .nodes)
+    use-asks a b c short line d =
+        let e : k ≡ 4 = other a b c d in
+        record { ready = clause-ready e short line; packed = w .rowsAre .packed ∙ ap (λ (n : ℕ). s .count + n) (sym (w .clausesAre)); few = room-clause s last (past 4 e .roomHere); short = w .rowsAre .short }
 
     module _ (short : length (h .bytes) ≤ 24576) where
       pub type-line : k ≡ 1 → (r : State) {kinds′ counts′ arities′ starts′ fields′ : List ℕ} → EntersType (h .bytes) (at + 1) s (h .kinds) (h .counts) (h .arities) (h .starts) (h .fields) kinds′ counts′ arities′ starts′ fields′ r
@@ -131,20 +137,24 @@ module _ {h : Held} {s : State} {σ : scope.State} (w : Says h s σ) (last : ℕ
           let m = room-ctor s last (q .roomHere) in
           entered (rw (p .1 .0) (ctor-steps w (at + 1) r x (above w (q .standsHere)) (m .0) (omega (arith, last-is w last lastIs (q .standsHere), m .1)) (omega arith) (omega arith) (p .0) (p .1 .1)))
 
-      pub subject-line : k ≡ 3 → (r : Step) → EntersSubject (h .bytes) (at + 1) s (h .kinds) (h .counts) (h .arities) (h .starts) (h .fields) r → Stepped h r (framed σ (drop at (h .bytes)))
+      subject-line : k ≡ 3 → (r : Step) → EntersSubject (h .bytes) (at + 1) s (h .kinds) (h .counts) (h .arities) (h .starts) (h .fields) r → Stepped h r (framed σ (drop at (h .bytes)))
       subject-line e r x =
           let p = subject-frame (drop (at + 1) (h .bytes)) f (past 3 e .reads) in
           entered (rw (p .1 .0) (subject-steps w (at + 1) r x (p .0) (byte-is (h .bytes) (at + 1) (p .0) [] (p .1 .1))))
 
-      pub clause-line : k ≡ 4 → (r : Step) {nodes′ left′ rows′ : List ℕ} → EntersClause (h .bytes) (at + 1) s (h .kinds) (h .counts) (h .arities) (h .starts) (h .fields) (h .nodes) (h .left) (h .rows) nodes′ left′ rows′ r
+      clause-line : k ≡ 4 → (r : Step) {nodes′ left′ rows′ : List ℕ} → EntersClause (h .bytes) (at + 1) s (h .kinds) (h .counts) (h .arities) (h .starts) (h .fields) (h .nodes) (h .left) (h .rows) nodes′ left′ rows′ r
           → Stepped (held (h .bytes) (h .kinds) (h .counts) (h .arities) (h .starts) (h .names) (h .fields) (h .labels) nodes′ left′ rows′) r (framed σ (drop at (h .bytes)))
       clause-line e r x =
           let q = past 4 e in
           let p = clause-frame (drop (at + 1) (h .bytes)) f (q .reads) in
           entered (rw (p .1 .0) (clause-steps w (sound-clause w (q .standsHere)) (at + 1) (p .0) (p .1 .1) r x (room-clause s last (q .roomHere))))
 
-      pub end-line : (k ≡ 1 → ⊥) → (k ≡ 2 → ⊥) → (k ≡ 3 → ⊥) → (k ≡ 4 → ⊥) → (r : State) → Ended s r → Stepped h (On r) (framed σ (drop at (h .bytes)))
-      end-line a b c d r x =
-          let e : k ≡ 5 = is-end k (past k refl .known) a b c d in
+      pub use-line : (k ≡ 1 → ⊥) → (k ≡ 2 → ⊥) → (k ≡ 5 → ⊥) → (r : Step) {nodes′ left′ rows′ : List ℕ} → EntersUse k (h .bytes) (at + 1) s (h .kinds) (h .counts) (h .arities) (h .starts) (h .fields) (h .nodes) (h .left) (h .rows) nodes′ left′ rows′ r
+          → Stepped (held (h .bytes) (h .kinds) (h .counts) (h .arities) (h .starts) (h .names) (h .fields) (h .labels) nodes′ left′ rows′) r (framed σ (drop at (h .bytes)))
+      use-line a b c r (aSubject e x n l m) = rw (n, l, m) (subject-line e r x)
+      use-line a b c r (aClause d x) = clause-line (other a b c d) r x
+
+      pub end-line : k ≡ 5 → (r : State) → Ended s r → Stepped h (On r) (framed σ (drop at (h .bytes)))
+      end-line e r x =
           let q = past 5 e in
           entered (rw (end-frame (drop (at + 1) (h .bytes)) f (q .reads)) (end-steps w (sound-end w (q .standsHere)) r x))

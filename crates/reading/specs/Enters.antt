@@ -2,14 +2,14 @@
 use mathlib.Core.Path.{_≡_}
 use mathlib.Core.Bool.{true, false}
 use mathlib.Core.List.{List}
-use Prim.Native.Nat.{ℕ, _+_, _-_, _%_}
-use lib.ListN.{getD, set}
+use Prim.Native.Nat.{ℕ, _+_, _-_, _%_, _≤_, _<_}
+use lib.ListN.{length, getD, set}
 use lib.Dec.{leb}
 use Rattle.scope.specs.Limits.{maxNodes}
 use Rattle.table.specs.Build.{arityIn, WithCtor}
 use Rattle.fresh.specs.Fresh.{isFreshIn}
 use Rattle.sound.specs.Sound.{isSoundIn}
-use Rattle.patterns.specs.Rows.{Simplifies}
+use Rattle.patterns.specs.Rows.{Ready, Simplifies}
 use Rattle.patterns.specs.declared.Simplified.the-variants.{Row as Kept, Unsuited}
 use Rattle.order.specs.declared.State.{State}
 use Rattle.order.specs.Phases.{Numbers}
@@ -44,6 +44,18 @@ pub data EntersClause (bytes : List ℕ) (at : ℕ) (s : State) (kinds counts ar
   over : {nodes₁ left₁ : List ℕ} {n : ℕ} → Simplifies bytes at kinds counts arities starts fields (s .subject) (s .used) nodes left nodes₁ left₁ (Kept n) → leb (s .count + n) maxNodes ≡ false → EntersClause bytes at s kinds counts arities starts fields nodes left rows nodes′ left′ rows′ (Refused 9)
   row : {nodes₁ left₁ : List ℕ} {n : ℕ} {r : State} → Simplifies bytes at kinds counts arities starts fields (s .subject) (s .used) nodes left nodes₁ left₁ (Kept n) → leb (s .count + n) maxNodes ≡ true → nodes′ ≡ set nodes₁ (s .used + n) 0 → left′ ≡ set left₁ (s .used + n) 0 → rows′ ≡ set rows (s .clauses) (s .used % 65536)
       → OneMore s n r → EntersClause bytes at s kinds counts arities starts fields nodes left rows nodes′ left′ rows′ (On r)
+
+-- what a clause asks of the bytes, the numbers and the rows so far
+pub record ForClause (bytes : List ℕ) (at : ℕ) (s : State) (fields nodes : List ℕ) : Type 0 where
+  pub ready : (stack : List ℕ) → 1920 ≤ length stack → Ready bytes at (s .subject) fields stack nodes (s .used)
+  pub packed : s .used ≡ s .count + s .clauses
+  pub few : s .clauses < 64
+  pub short : s .count ≤ 4096
+
+-- the subject, which leaves the rows as they are, or a clause
+pub data EntersUse (kind : ℕ) (bytes : List ℕ) (at : ℕ) (s : State) (kinds counts arities starts fields nodes left rows nodes′ left′ rows′ : List ℕ) (r : Step) : Type 0 where
+  aSubject : kind ≡ 3 → EntersSubject bytes at s kinds counts arities starts fields r → nodes′ ≡ nodes → left′ ≡ left → rows′ ≡ rows → EntersUse kind bytes at s kinds counts arities starts fields nodes left rows nodes′ left′ rows′ r
+  aClause : (kind ≡ 3 → ⊥) → EntersClause bytes at s kinds counts arities starts fields nodes left rows nodes′ left′ rows′ r → EntersUse kind bytes at s kinds counts arities starts fields nodes left rows nodes′ left′ rows′ r
 
 -- after the end only the phase is another
 pub record Ended (s r : State) : Type 0 where

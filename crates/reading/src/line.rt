@@ -12,39 +12,24 @@ use sound::is_sound;
 use table::add_ctor;
 use table::add_type;
 ghost use mathlib.Core.Path.{_≡_};
-ghost use mathlib.Core.List.{List};
-ghost use Prim.Native.Nat.{ℕ, _+_, _-_, _<_, _≤_, _^_};
-ghost use Rattle.patterns.specs.Rows.{Ready};
+ghost use Prim.Native.Nat.{_+_, _-_, _<_, _≤_};
+ghost use Rattle.order.specs.Phases.{Numbers};
 ghost use lib.ListN.{length, getD, drop};
 ghost use Rattle.scope.specs.Blocks as scope;
 ghost use Rattle.scope.specs.Blocks.{framed};
 ghost use Rattle.reading.specs.Said.{held, Known, Says, Stepped};
-ghost use Rattle.reading.specs.Enters.{EntersSubject, EntersClause, Ended};
+ghost use Rattle.reading.specs.Enters.{OneMore, ForClause, EntersUse, Ended};
 
 pub enum Step {
     On(State),
     Refused(u8),
 }
 
-// 03 subject.
-fn enter_subject(
-    bytes: &[u8],
-    at: usize,
-    s: State,
-    kinds: &[u8; 64],
-    counts: &[u8; 64],
-    arities: &[u8; 2048],
-    starts: &[u16; 2048],
-    fields: &[u8; 5120],
-) -> Step
-    requires { ⌜ s .types ≤ 64 ⌝ }
-    ensures { λ r. ⌜ EntersSubject (now (bytes .entry)) at s (now (kinds .entry)) (now (counts .entry)) (now (arities .entry)) (now (starts .entry)) (now (fields .entry)) r ⌝ }
+// The numbers after the subject, which is type t.
+fn after_subject(s: State, t: usize) -> State
+    ensures { λ r. ⌜ Numbers r 2 (s .types) (s .ctors) (s .fields) t ⌝ }
 {
-    let t = wide8(at8(bytes, at));
-    if !is_sound(kinds, counts, arities, starts, fields, s.fields, s.types, t) {
-        return Step::Refused(7);
-    }
-    Step::On(State {
+    State {
         phase: 2,
         types: s.types,
         ctors: s.ctors,
@@ -53,11 +38,31 @@ fn enter_subject(
         clauses: 0,
         used: 0,
         count: 0,
-    })
+    }
 }
 
-// 04 clause.
-fn enter_clause(
+// The numbers after a clause of n nodes.
+fn after_clause(s: State, n: usize) -> State
+    requires { ⌜ s .clauses < 64 ⌝ }
+    requires { ⌜ s .used + n < 4160 ⌝ }
+    requires { ⌜ s .count + n ≤ 4096 ⌝ }
+    ensures { λ r. ⌜ OneMore s n r ⌝ }
+{
+    State {
+        phase: 2,
+        types: s.types,
+        ctors: s.ctors,
+        fields: s.fields,
+        subject: s.subject,
+        clauses: s.clauses + 1,
+        used: s.used + n + 1,
+        count: s.count + n,
+    }
+}
+
+// 03 subject and 04 clause, which use the types.
+fn enter_use(
+    kind: u8,
     bytes: &[u8],
     at: usize,
     s: State,
@@ -70,14 +75,18 @@ fn enter_clause(
     left: &mut [u16; 4160],
     rows: &mut [u16; 64],
 ) -> Step
-    requires { ⌜ ((stack : List ℕ) → 1920 ≤ length stack → Ready (now bytes) at (s .subject) (now fields) stack (now nodes) (s .used)) ⌝ }
-    requires { ⌜ s .used ≡ s .count + s .clauses ⌝ }
-    requires { ⌜ s .clauses < 64 ⌝ }
-    requires { ⌜ s .count ≤ 4096 ⌝ }
-    ensures { λ r. ⌜ EntersClause (now (bytes .entry)) at s (now (kinds .entry)) (now (counts .entry)) (now (arities .entry)) (now (starts .entry)) (now (fields .entry)) (now (nodes .entry)) (now (left .entry)) (now (rows .entry)) (now (nodes .exit)) (now (left .exit)) (now (rows .exit)) r ⌝ }
+    requires { ⌜ s .types ≤ 64 ⌝ }
+    requires { ⌜ ((kind ≡ 3 → ⊥) → ForClause (now bytes) at s (now fields) (now nodes)) ⌝ }
+    ensures { λ r. ⌜ EntersUse kind (now (bytes .entry)) at s (now (kinds .entry)) (now (counts .entry)) (now (arities .entry)) (now (starts .entry)) (now (fields .entry)) (now (nodes .entry)) (now (left .entry)) (now (rows .entry)) (now (nodes .exit)) (now (left .exit)) (now (rows .exit)) r ⌝ }
 {
+    if kind == 3 {
+        let t = wide8(at8(bytes, at));
+        if is_sound(kinds, counts, arities, starts, fields, s.fields, s.types, t) {
+            return Step::On(after_subject(s, t));
+        }
+        return Step::Refused(7);
+    }
     let mut stack = [0u16; 1920];
-    let used = s.used;
     let r = simplify(
         bytes,
         at,
@@ -90,29 +99,20 @@ fn enter_clause(
         &mut stack,
         nodes,
         left,
-        used,
+        s.used,
     );
     let Simplified::Row { count } = r else {
         return Step::Refused(8);
     };
-    if !has_nodes(s.count, count) {
-        return Step::Refused(9);
+    if has_nodes(s.count, count) {
+        let row = s.clauses;
+        let end = s.used + count;
+        nodes[end] = 0;
+        left[end] = 0;
+        rows[row] = (s.used % 65536) as u16;
+        return Step::On(after_clause(s, count));
     }
-    let row = s.clauses;
-    let end = used + count;
-    nodes[end] = 0;
-    left[end] = 0;
-    rows[row] = (used % 65536) as u16;
-    Step::On(State {
-        phase: 2,
-        types: s.types,
-        ctors: s.ctors,
-        fields: s.fields,
-        subject: s.subject,
-        clauses: row + 1,
-        used: end + 1,
-        count: s.count + count,
-    })
+    Step::Refused(9)
 }
 
 // 05 end.
@@ -199,11 +199,12 @@ pub fn enter_line(
                     }
                     return Step::Refused(7);
                 }
-                3 => {
-                    return enter_subject(bytes, from, s, kinds, counts, arities, starts, fields);
+                5 => {
+                    return Step::On(enter_end(s));
                 }
-                4 => {
-                    return enter_clause(
+                _ => {
+                    return enter_use(
+                        kind,
                         bytes,
                         from,
                         s,
@@ -216,9 +217,6 @@ pub fn enter_line(
                         left,
                         rows,
                     );
-                }
-                _ => {
-                    return Step::On(enter_end(s));
                 }
             }
         }

@@ -3,7 +3,7 @@ use mathlib.Core.Path.{sym, _∙_}
 use native.Mathlib.Omega.{arith}
 use Rattle.reading.specs.declared.line.Step.the-variants.{On, Refused}
 use Rattle.reading.specs.Enters.{stale, fresh}
-use Rattle.reading.proofs.Stepping.{as-kind, as-refused, few-types, few-fields, type-asks, ctor-asks, clause-asks, clause-few, line-refused, type-line, ctor-line, subject-line, clause-line, end-line}
+use Rattle.reading.proofs.Stepping.{as-kind, as-refused, few-types, few-fields, type-asks, ctor-asks, use-asks, line-refused, type-line, ctor-line, use-line, end-line}
 use borrow.Author.Needs.{needs}
 use Rattle.reading.proofs.line.enter_line.Statement.{statement}
 use Rattle.reading.proofs.line.enter_line.Tie as tie
@@ -53,31 +53,23 @@ returns-4 c =
     let k = as-kind (c .before .before .before .before .before .before .before .before .before .before .before .before .before .before .before .args .bytes .now) (c .before .before .before .before .before .before .before .before .before .before .before .before .before .before .before .args .at) (c .before .before .before .before .before .before .before .before .before .before .before .before .before .before .before .args .s) (c .before .before .before .before .before .before .before .before .before .before .before .before .last-ctors .result) (c .before .before .before .before .before .before .before .before .before .before .before .kind-of .result) (c .before .before .before .before .before .before .before .before .before .before .before .kind-of .ensures) (c .before .before .before .before .before .before .before .before .before .k2 .given .0 .0) (c .before .before .before .before .before .before .before .before .before .k2 .given .1) in
     λ σ w. ctor-line w (c .before .before .before .before .before .before .before .before .before .before .before .before .last-ctors .result) (c .before .before .before .before .before .before .before .before .before .before .before .before .last-ctors .ensures) (c .before .before .before .before .before .before .before .before .before .before .before .before .before .before .before .args .at) (c .before .before .before .before .before .before .before .before .before .before .before .before .before .before .before .pre .1 .0) (c .before .before .before .before .before .before .before .before .before .k2 .given .0 .0) (k .0) (k .1 .0) (k .1 .1) (c .before .before .before .before .before .before .before .before .before .before .before .before .before .before .before .pre .1 .1 .0) (c .before .before .before .before .before .before .before .match2 .keys2) (Refused 7) (stale (sym (c .before .is-fresh .ensures) ∙ c .if1 .left))
 
-enter-subject-requires : tie.Need-enter-subject-requires
-enter-subject-requires c κs =
-    few-types (c .before .before .before .before .before .before .before .before .before .before .before .before .before .pre .0 .says) (c .before .before .before .before .before .before .before .before .before .before .last-ctors .result) (c .before .before .before .before .before .before .before .before .before .before .last-ctors .ensures) (c .before .before .before .before .before .before .before .before .before .before .before .before .before .args .at)
-
 returns-5 : tie.Need-returns-5
 returns-5 c =
-    let k = as-kind (c .before .before .before .before .before .before .before .before .before .before .before .before .before .before .args .bytes .now) (c .before .before .before .before .before .before .before .before .before .before .before .before .before .before .args .at) (c .before .before .before .before .before .before .before .before .before .before .before .before .before .before .args .s) (c .before .before .before .before .before .before .before .before .before .before .before .last-ctors .result) (c .before .before .before .before .before .before .before .before .before .before .kind-of .result) (c .before .before .before .before .before .before .before .before .before .before .kind-of .ensures) (c .before .before .before .before .before .before .before .before .k2 .given .0 .0) (c .before .before .before .before .before .before .before .before .k2 .given .1) in
-    λ σ w. subject-line w (c .before .before .before .before .before .before .before .before .before .before .before .last-ctors .result) (c .before .before .before .before .before .before .before .before .before .before .before .last-ctors .ensures) (c .before .before .before .before .before .before .before .before .before .before .before .before .before .before .args .at) (c .before .before .before .before .before .before .before .before .before .before .before .before .before .before .pre .1 .0) (c .before .before .before .before .before .before .before .before .k2 .given .0 .0) (k .0) (k .1 .0) (k .1 .1) (c .before .before .before .before .before .before .before .before .before .before .before .before .before .before .pre .1 .1 .0) (c .before .before .before .before .before .before .match2 .keys3) (c .enter-subject .result) (c .enter-subject .ensures)
+    let k = as-kind (c .before .before .before .before .before .before .before .before .before .args .bytes .now) (c .before .before .before .before .before .before .before .before .before .args .at) (c .before .before .before .before .before .before .before .before .before .args .s) (c .before .before .before .before .before .before .last-ctors .result) (c .before .before .before .before .before .kind-of .result) (c .before .before .before .before .before .kind-of .ensures) (c .before .before .before .k2 .given .0 .0) (c .before .before .before .k2 .given .1) in
+    λ σ w. end-line w (c .before .before .before .before .before .before .last-ctors .result) (c .before .before .before .before .before .before .last-ctors .ensures) (c .before .before .before .before .before .before .before .before .before .args .at) (c .before .before .before .before .before .before .before .before .before .pre .1 .0) (c .before .before .before .k2 .given .0 .0) (k .0) (k .1 .0) (k .1 .1) (c .before .before .before .before .before .before .before .before .before .pre .1 .1 .0) (c .before .match2 .keys3) (c .enter-end .result) (c .enter-end .ensures)
 
-enter-clause-requires : tie.Need-enter-clause-requires
-enter-clause-requires c κs =
+enter-use-requires : tie.Need-enter-use-requires
+enter-use-requires c κs =
     let k = as-kind (c .before .before .before .before .before .before .before .before .before .before .before .before .before .before .before .before .args .bytes .now) (c .before .before .before .before .before .before .before .before .before .before .before .before .before .before .before .before .args .at) (c .before .before .before .before .before .before .before .before .before .before .before .before .before .before .before .before .args .s) (c .before .before .before .before .before .before .before .before .before .before .before .before .before .last-ctors .result) (c .before .before .before .before .before .before .before .before .before .before .before .before .kind-of .result) (c .before .before .before .before .before .before .before .before .before .before .before .before .kind-of .ensures) (c .before .before .before .before .before .before .before .before .before .before .k2 .given .0 .0) (c .before .before .before .before .before .before .before .before .before .before .k2 .given .1) in
     let w = c .before .before .before .before .before .before .before .before .before .before .before .before .before .before .before .before .pre .0 .says in
-    (clause-asks w (c .before .before .before .before .before .before .before .before .before .before .before .before .before .last-ctors .result) (c .before .before .before .before .before .before .before .before .before .before .before .before .before .last-ctors .ensures) (c .before .before .before .before .before .before .before .before .before .before .before .before .before .before .before .before .args .at) (c .before .before .before .before .before .before .before .before .before .before .before .before .before .before .before .before .pre .1 .0) (c .before .before .before .before .before .before .before .before .before .before .k2 .given .0 .0) (k .0) (k .1 .0) (k .1 .1) (c .before .before .before .before .before .before .before .before .match2 .keys4) (c .before .before .before .before .before .before .before .before .before .before .before .before .before .before .before .before .pre .1 .1 .0) (c .before .before .before .before .before .before .before .before .before .before .before .before .before .before .before .before .pre .1 .1 .1), clause-few w (c .before .before .before .before .before .before .before .before .before .before .before .before .before .last-ctors .result) (c .before .before .before .before .before .before .before .before .before .before .before .before .before .last-ctors .ensures) (c .before .before .before .before .before .before .before .before .before .before .before .before .before .before .before .before .args .at) (c .before .before .before .before .before .before .before .before .before .before .before .before .before .before .before .before .pre .1 .0) (c .before .before .before .before .before .before .before .before .before .before .k2 .given .0 .0) (k .0) (k .1 .0) (k .1 .1) (c .before .before .before .before .before .before .before .before .match2 .keys4))
+    let none = c .before .before .before .before .before .before .before .before .match2 .rest in
+    (few-types w (c .before .before .before .before .before .before .before .before .before .before .before .before .before .last-ctors .result) (c .before .before .before .before .before .before .before .before .before .before .before .before .before .last-ctors .ensures) (c .before .before .before .before .before .before .before .before .before .before .before .before .before .before .before .before .args .at), use-asks w (c .before .before .before .before .before .before .before .before .before .before .before .before .before .last-ctors .result) (c .before .before .before .before .before .before .before .before .before .before .before .before .before .last-ctors .ensures) (c .before .before .before .before .before .before .before .before .before .before .before .before .before .before .before .before .args .at) (c .before .before .before .before .before .before .before .before .before .before .before .before .before .before .before .before .pre .1 .0) (c .before .before .before .before .before .before .before .before .before .before .k2 .given .0 .0) (k .0) (k .1 .0) (k .1 .1) (none .0 .0 .1) (none .0 .1) (none .1) (c .before .before .before .before .before .before .before .before .before .before .before .before .before .before .before .before .pre .1 .1 .0) (c .before .before .before .before .before .before .before .before .before .before .before .before .before .before .before .before .pre .1 .1 .1))
 
 returns-6 : tie.Need-returns-6
 returns-6 c =
     let k = as-kind (c .before .before .before .before .before .before .before .before .before .before .before .before .before .before .before .before .before .args .bytes .now) (c .before .before .before .before .before .before .before .before .before .before .before .before .before .before .before .before .before .args .at) (c .before .before .before .before .before .before .before .before .before .before .before .before .before .before .before .before .before .args .s) (c .before .before .before .before .before .before .before .before .before .before .before .before .before .before .last-ctors .result) (c .before .before .before .before .before .before .before .before .before .before .before .before .before .kind-of .result) (c .before .before .before .before .before .before .before .before .before .before .before .before .before .kind-of .ensures) (c .before .before .before .before .before .before .before .before .before .before .before .k2 .given .0 .0) (c .before .before .before .before .before .before .before .before .before .before .before .k2 .given .1) in
-    λ σ w. clause-line w (c .before .before .before .before .before .before .before .before .before .before .before .before .before .before .last-ctors .result) (c .before .before .before .before .before .before .before .before .before .before .before .before .before .before .last-ctors .ensures) (c .before .before .before .before .before .before .before .before .before .before .before .before .before .before .before .before .before .args .at) (c .before .before .before .before .before .before .before .before .before .before .before .before .before .before .before .before .before .pre .1 .0) (c .before .before .before .before .before .before .before .before .before .before .before .k2 .given .0 .0) (k .0) (k .1 .0) (k .1 .1) (c .before .before .before .before .before .before .before .before .before .before .before .before .before .before .before .before .before .pre .1 .1 .0) (c .before .before .before .before .before .before .before .before .before .match2 .keys4) (c .enter-clause .result) (c .enter-clause .ensures)
-
-returns-7 : tie.Need-returns-7
-returns-7 c =
-    let k = as-kind (c .before .before .before .before .before .before .before .before .before .args .bytes .now) (c .before .before .before .before .before .before .before .before .before .args .at) (c .before .before .before .before .before .before .before .before .before .args .s) (c .before .before .before .before .before .before .last-ctors .result) (c .before .before .before .before .before .kind-of .result) (c .before .before .before .before .before .kind-of .ensures) (c .before .before .before .k2 .given .0 .0) (c .before .before .before .k2 .given .1) in
-    let none = c .before .match2 .rest in
-    λ σ w. end-line w (c .before .before .before .before .before .before .last-ctors .result) (c .before .before .before .before .before .before .last-ctors .ensures) (c .before .before .before .before .before .before .before .before .before .args .at) (c .before .before .before .before .before .before .before .before .before .pre .1 .0) (c .before .before .before .k2 .given .0 .0) (k .0) (k .1 .0) (k .1 .1) (c .before .before .before .before .before .before .before .before .before .pre .1 .1 .0) (none .0 .0 .0 .1) (none .0 .0 .1) (none .0 .1) (none .1) (c .enter-end .result) (c .enter-end .ensures)
+    let none = c .before .before .before .before .before .before .before .before .before .match2 .rest in
+    λ σ w. use-line w (c .before .before .before .before .before .before .before .before .before .before .before .before .before .before .last-ctors .result) (c .before .before .before .before .before .before .before .before .before .before .before .before .before .before .last-ctors .ensures) (c .before .before .before .before .before .before .before .before .before .before .before .before .before .before .before .before .before .args .at) (c .before .before .before .before .before .before .before .before .before .before .before .before .before .before .before .before .before .pre .1 .0) (c .before .before .before .before .before .before .before .before .before .before .before .k2 .given .0 .0) (k .0) (k .1 .0) (k .1 .1) (c .before .before .before .before .before .before .before .before .before .before .before .before .before .before .before .before .before .pre .1 .1 .0) (none .0 .0 .1) (none .0 .1) (none .1) (c .enter-use .result) (c .enter-use .ensures)
 
 pub enter-line-spec : {M : Type 1} → statement M
 enter-line-spec =
@@ -96,9 +88,7 @@ enter-line-spec =
     add-ctor-requires
     returns-3
     returns-4
-    enter-subject-requires
-    returns-5
-    enter-clause-requires
-    returns-6
     (λ c κs. search needs)
-    returns-7)
+    returns-5
+    enter-use-requires
+    returns-6)
