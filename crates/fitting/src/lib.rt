@@ -1,5 +1,6 @@
 // The report fitted to its buffer: refusal 11.
 use answers::Answer;
+use numbers::fit;
 use text::lines::report as write_report;
 ghost use lib.ListN.{length};
 ghost use Rattle.scope.specs.Types.{Table};
@@ -43,11 +44,9 @@ pub fn say(
         &mut report[room..],
         0,
     );
-    if room < length {
-        return Answer::Refused {
-            number: 11,
-            line: 0,
-        };
+    let answer = fit(room, length);
+    if let Answer::Refused { number: _, line: _ } = answer {
+        return answer;
     }
     write_report(
         bytes,
@@ -64,5 +63,5 @@ pub fn say(
         report,
         0,
     );
-    Answer::Report { length }
+    answer
 }

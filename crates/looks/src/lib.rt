@@ -3,18 +3,18 @@ ghost use mathlib.Core.Path.{_≡_};
 ghost use mathlib.Core.Bool.{_&&_, _||_};
 ghost use Prim.Native.Nat.{_+_, _/_, _%_, _^_, _<_, _≤_};
 ghost use lib.ListN.{length, getD};
+ghost use Rattle.scope.specs.Types.{Ref, Table, ctorAt};
 ghost use Rattle.layout.specs.Types.{textAt};
 ghost use Rattle.writing.specs.Writing.{Wrote};
-ghost use Rattle.naming.specs.Naming.{fixedNames, nameIn, lookOf};
+ghost use Rattle.naming.specs.Naming.{fixedNames, nameIn, NameAt, lookOf};
 ghost use Rattle.looks.specs.Nodes.{modeOf, lookIn, nilNode, labelText};
 use cells::at8;
 use cells::at16;
 use cells::wide16;
 use layout::name_at;
 use naming::Look;
-use naming::look_by_kind;
-use naming::look_by_name;
-use naming::name_of;
+use naming::leaves_out;
+use naming::look_in;
 use writing::all;
 
 // Whether the node at p is "[]" of a list.
@@ -36,13 +36,26 @@ fn is_nil(kinds: &[u8], nodes: &[u16], p: usize) -> bool
 pub fn closes(first: bool, paste: bool, kinds: &[u8], nodes: &[u16], p: usize) -> bool
     ensures { λ r. ⌜ r ≡ ((first || paste) && nilNode (now (kinds .entry)) (getD (now (nodes .entry)) p 0)) ⌝ }
 {
-    if first {
-        return is_nil(kinds, nodes, p);
+    leaves_out(first, paste, is_nil(kinds, nodes, p))
+}
+
+// The name of constructor c of a type of this kind: a part of the fixed names or of the decoded bytes.
+pub fn name_of<'a>(fixed: &'a [u8], bytes: &'a [u8], kind: u8, c: usize, place: usize) -> &'a [u8]
+    requires { ⌜ now fixed ≡ fixedNames ⌝ }
+    ensures { λ r. ⌜ now r ≡ nameIn (now (bytes .entry)) kind c place ⌝ }
+    ensures { λ r. ⌜ ((table : Table) (t : Ref) → NameAt (now (bytes .entry)) kind c place table t → now r ≡ ctorAt table t c .name) ⌝ }
+    ensures { λ r. ⌜ length (now r) ≤ 255 ⌝ }
+{
+    if kind == 3 {
+        if c == 0 {
+            return &fixed[0..2];
+        }
+        return &fixed[2..4];
     }
-    if !paste {
-        return false;
+    if kind != 6 {
+        return &fixed[4..11];
     }
-    is_nil(kinds, nodes, p)
+    name_at(bytes, place)
 }
 
 // The name of the constructor with the number i: a part of the fixed names or of the decoded bytes.
@@ -70,12 +83,9 @@ fn ctor_name<'a>(
 pub fn look(paste: bool, bytes: &[u8], kinds: &[u8], names: &[u16], i: usize) -> Look
     ensures { λ r. ⌜ r ≡ lookOf (lookIn (modeOf paste) (now (bytes .entry)) (getD (now (kinds .entry)) (i / 32) 0) (i % 32) (getD (now (names .entry)) i 0)) ⌝ }
 {
-    if paste {
-        return look_by_kind(at8(kinds, i / 32), i % 32);
-    }
     let fixed = names::fixed_names();
-    let tuple = names::tuple_name();
-    look_by_name(ctor_name(&fixed, bytes, kinds, names, i), b"::", &tuple)
+    let name = ctor_name(&fixed, bytes, kinds, names, i);
+    look_in(paste, at8(kinds, i / 32), i % 32, name)
 }
 
 // The name of the constructor with the number i, written.

@@ -67,17 +67,17 @@ kind-spelled k c e f g = ap₃ (ne-eqb k 4 e) (ne-eqb k 5 f) (ne-eqb k 3 g)
     ap₃ p q r = rw (p, q, r)
 
 -- looks by name
-module _ (name cons tuple : Text) (isCons : cons ≡ consName) (isTuple : tuple ≡ tupleName) where
-  by-name : (a b : Bool) → a ≡ contains tuple name → b ≡ same name cons → lookByName name ≡ cond a round (cond b square spelled)
-  by-name a b h k = sym (ap₂ (λ (x y : Bool). cond x round (cond y square spelled)) (h ∙ ap (λ (t : Text). contains t name) isTuple) (k ∙ ap (same name) isCons))
+module _ (name tuple : Text) (isTuple : tuple ≡ tupleName) where
+  by-name : (a b : Bool) → a ≡ contains tuple name → b ≡ same name consName → lookByName name ≡ cond a round (cond b square spelled)
+  by-name a b h k = sym (ap₂ (λ (x y : Bool). cond x round (cond y square spelled)) (h ∙ ap (λ (t : Text). contains t name) isTuple) k)
 
   pub name-round : true ≡ contains tuple name → lookByName name ≡ round
-  name-round h = by-name true (same name cons) h refl
+  name-round h = by-name true (same name consName) h refl
 
-  pub name-square : false ≡ contains tuple name → true ≡ same name cons → lookByName name ≡ square
+  pub name-square : false ≡ contains tuple name → true ≡ same name consName → lookByName name ≡ square
   name-square h k = by-name false true h k
 
-  pub name-spelled : false ≡ contains tuple name → false ≡ same name cons → lookByName name ≡ spelled
+  pub name-spelled : false ≡ contains tuple name → false ≡ same name consName → lookByName name ≡ spelled
   name-spelled h k = by-name false false h k
 
 -- what `name_of` promises, from the name that it finds

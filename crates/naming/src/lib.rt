@@ -1,30 +1,8 @@
-// The names of constructors, and how a constructor looks.
+// How a constructor looks in a text, and where a list's end is left out.
 ghost use mathlib.Core.Path.{_≡_};
-ghost use Prim.Native.Nat.{_≤_};
-ghost use lib.ListN.{length};
-ghost use Rattle.scope.specs.Types.{Ref, Table, ctorAt, consName, tupleName};
+ghost use mathlib.Core.Bool.{cond, _&&_, _||_};
 ghost use Rattle.scope.specs.Text.{lookByName, lookByKind};
-ghost use Rattle.naming.specs.Naming.{fixedNames, nameIn, NameAt, lookOf};
-use layout::name_at;
-
-// The name of constructor c of a type of this kind: a part of the fixed names or of the decoded bytes.
-pub fn name_of<'a>(fixed: &'a [u8], bytes: &'a [u8], kind: u8, c: usize, place: usize) -> &'a [u8]
-    requires { ⌜ now fixed ≡ fixedNames ⌝ }
-    ensures { λ r. ⌜ now r ≡ nameIn (now (bytes .entry)) kind c place ⌝ }
-    ensures { λ r. ⌜ ((table : Table) (t : Ref) → NameAt (now (bytes .entry)) kind c place table t → now r ≡ ctorAt table t c .name) ⌝ }
-    ensures { λ r. ⌜ length (now r) ≤ 255 ⌝ }
-{
-    if kind == 3 {
-        if c == 0 {
-            return &fixed[0..2];
-        }
-        return &fixed[2..4];
-    }
-    if kind != 6 {
-        return &fixed[4..11];
-    }
-    name_at(bytes, place)
-}
+ghost use Rattle.naming.specs.Naming.{lookOf};
 
 pub enum Look {
     Round,
@@ -33,22 +11,21 @@ pub enum Look {
 }
 
 // By the name.
-pub fn look_by_name(name: &[u8], cons: &[u8], tuple: &[u8]) -> Look
-    requires { ⌜ now cons ≡ consName ⌝ }
-    requires { ⌜ now tuple ≡ tupleName ⌝ }
+fn look_by_name(name: &[u8]) -> Look
     ensures { λ r. ⌜ r ≡ lookOf (lookByName (now (name .entry))) ⌝ }
 {
-    if names::contains(tuple, name) {
+    let tuple = names::tuple_name();
+    if names::contains(&tuple, name) {
         return Look::Round;
     }
-    if names::same(name, cons) {
+    if names::same(name, b"::") {
         return Look::Square;
     }
     Look::Spelled
 }
 
 // By the type's kind.
-pub fn look_by_kind(kind: u8, c: usize) -> Look
+fn look_by_kind(kind: u8, c: usize) -> Look
     ensures { λ r. ⌜ r ≡ lookOf (lookByKind kind c) ⌝ }
 {
     if kind == 4 {
@@ -63,4 +40,27 @@ pub fn look_by_kind(kind: u8, c: usize) -> Look
         }
     }
     Look::Spelled
+}
+
+// How a constructor looks: by its type's kind in the paste text, by its name in the source's.
+pub fn look_in(paste: bool, kind: u8, c: usize, name: &[u8]) -> Look
+    ensures { λ r. ⌜ r ≡ lookOf (cond paste (lookByKind kind c) (lookByName (now (name .entry)))) ⌝ }
+{
+    if paste {
+        return look_by_kind(kind, c);
+    }
+    look_by_name(name)
+}
+
+// Whether a tail is left out: "[]" after the first element, and in the paste text after a further one.
+pub fn leaves_out(first: bool, paste: bool, nil: bool) -> bool
+    ensures { λ r. ⌜ r ≡ ((first || paste) && nil) ⌝ }
+{
+    if first {
+        return nil;
+    }
+    if !paste {
+        return false;
+    }
+    nil
 }

@@ -1,7 +1,22 @@
-// The answer as numbers, for callers in other languages.
+// The answer for so many bytes of report, and the answer as numbers, for callers in other languages.
 use answers::Answer;
 ghost use mathlib.Core.Path.{_≡_};
-ghost use Rattle.answers.specs.Answer.{said};
+ghost use lib.ListN.{length};
+ghost use Rattle.scope.specs.Lists.{Text};
+ghost use Rattle.answers.specs.Answer.{fitted, said};
+
+// 11: the answer for a report of so many bytes and a buffer with room for so many.
+pub fn fit(room: usize, bytes: usize) -> Answer
+    ensures { λ r. ⌜ ((t : Text) → bytes ≡ length t → r ≡ fitted room t .answer) ⌝ }
+{
+    if room < bytes {
+        return Answer::Refused {
+            number: 11,
+            line: 0,
+        };
+    }
+    Answer::Report { length: bytes }
+}
 
 // The answer's number, 0 for a report; its line and the report's length through the last two.
 pub fn tell(answer: Answer, line: &mut usize, length: &mut usize) -> u8

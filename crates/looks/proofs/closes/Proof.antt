@@ -1,28 +1,21 @@
--- `looks::closes` meets its contract.
-use mathlib.Core.Path.{ap, ap₂}
-use mathlib.Core.Bool.{Bool, _||_}
-use lib.ListN.{getD}
-use borrow.Author.Tests.{not-true, not-false}
-use Rattle.looks.specs.Nodes.{nilNode}
-use Rattle.looks.proofs.Nodes.{closes-is, closes-not}
-use borrow.Author.Needs.{needs}
+-- `looks::closes` meets its contract: the node is tested, then what is to be left out.
+use mathlib.Core.Path.{ap, _∙_}
+use mathlib.Core.Bool.{Bool, _&&_, _||_}
 use Rattle.looks.proofs.closes.Statement.{statement}
 use Rattle.looks.proofs.closes.Tie as tie
+
+is-nil-requires : tie.Need-is-nil-requires
+is-nil-requires c κs =
+    tt
+
+leaves-out-requires : tie.Need-leaves-out-requires
+leaves-out-requires c κs =
+    tt
 
 returns : tie.Need-returns
 returns c =
     let a = c .before .before .before .before .args in
-    closes-is (a .first || a .paste) (c .is-nil .result) (nilNode (a .kinds .now) (getD (a .nodes .now) (a .p) 0)) (ap (λ (b : Bool). b || a .paste) (c .before .if1 .taken)) (c .is-nil .ensures)
-
-returns-2 : tie.Need-returns-2
-returns-2 c =
-    let a = c .before .before .before .before .args in
-    closes-not (a .first || a .paste) (nilNode (a .kinds .now) (getD (a .nodes .now) (a .p) 0)) (ap₂ _||_ (c .before .if1 .left) (not-true _ (c .if2 .taken)))
-
-returns-3 : tie.Need-returns-3
-returns-3 c =
-    let a = c .before .before .before .before .before .args in
-    closes-is (a .first || a .paste) (c .is-nil2 .result) (nilNode (a .kinds .now) (getD (a .nodes .now) (a .p) 0)) (ap₂ _||_ (c .before .before .if1 .left) (not-false _ (c .before .if2 .left))) (c .is-nil2 .ensures)
+    c .leaves-out .ensures ∙ ap (λ (b : Bool). (a .first || a .paste) && b) (c .before .is-nil .ensures)
 
 pub closes-spec : {M : Type 1} → statement M
-closes-spec = tie.close (tie.spec (λ c κs. search needs) returns returns-2 (λ c κs. search needs) returns-3)
+closes-spec = tie.close (tie.spec is-nil-requires leaves-out-requires returns)
