@@ -16,13 +16,15 @@ use Rattle.ctors.specs.declared.Ctors.{Ctors}
 use Rattle.ctors.specs.declared.Ctors.the-variants.{Complete, Open}
 use Rattle.ctors.specs.Sets.{ctorsOf}
 use Rattle.ctors.proofs.Found.{complete-is, open-is}
-use Rattle.outcomes.specs.declared.Verdict.the-variants.{Done, Over}
+use Rattle.outcomes.specs.declared.Verdict.the-variants.{Done}
+use Rattle.turns.specs.declared.Turn.the-variants.{Next, Last}
+use Rattle.turns.specs.Turns.{turnOf}
 use Rattle.matrix.proofs.Arities.{arity-0}
 use Rattle.matrix.proofs.Specialised.{heads}
 use Rattle.matrix.proofs.Behind.{Behind, behind}
 use Rattle.walks.proofs.Measure.{size-default, size-alt, size-own, size-wild}
 use Rattle.useful.proofs.Limits.{done-is}
-use Rattle.useful.proofs.Turns.{row-real, row-add, patterned-some, patterned-next, any-none, any-over, any-yes, any-no}
+use Rattle.useful.proofs.Turns.{row-real, row-add, patterned-some, patterned-next, turn-next, any-none, any-last, any-no}
 use Rattle.matrix.proofs.Fronts.{part}
 
 -- a product that is at least each of its factors
@@ -130,25 +132,24 @@ module _ (bytes nodes left counts ars : List ℕ) where
       unfolding one
       first = h .is ∙ ap (λ (x : List ℕ). limited calls room (usefulBy bytes counts ars (usefulOf bytes counts ars) (n - 1) (matrix nodes left n (take rows s)) x key)) (row-add w a row ∙ ap (λ (x : ℕ). replicate x 0 ++ newRow w row) ae)
 
-      pub each-over : v ≡ Over → Walked s rows e Over calls room (anyFrom (usefulAlt bytes counts ars (usefulOf bytes counts ars) (n - 1) (matrix nodes left n (take rows s)) (newRow w row)) key more)
+      pub each-last : turnOf v ≡ Last → Walked s rows e v calls room (anyFrom (usefulAlt bytes counts ars (usefulOf bytes counts ars) (n - 1) (matrix nodes left n (take rows s)) (newRow w row)) key more)
       unfolding one
-      each-over q = record { kept = h .kept; is = any-over (usefulAlt bytes counts ars (usefulOf bytes counts ars) (n - 1) (matrix nodes left n (take rows s)) (newRow w row)) key calls room more p (sym q ∙ first) }
+      each-last q = record { kept = h .kept; is = any-last (usefulAlt bytes counts ars (usefulOf bytes counts ars) (n - 1) (matrix nodes left n (take rows s)) (newRow w row)) key calls room more p v first q }
 
-      pub each-yes : (d : ℕ) → v ≡ Done true d → Walked s rows e (Done true d) calls room (anyFrom (usefulAlt bytes counts ars (usefulOf bytes counts ars) (n - 1) (matrix nodes left n (take rows s)) (newRow w row)) key more)
-      unfolding one
-      each-yes d q = record { kept = h .kept; is = any-yes (usefulAlt bytes counts ars (usefulOf bytes counts ars) (n - 1) (matrix nodes left n (take rows s)) (newRow w row)) key calls room more d p (sym q ∙ first) }
+      said-no : (d : ℕ) → turnOf v ≡ Next d → Done false d ≡ limited calls room one
+      said-no d q = sym (turn-next v d q) ∙ first
 
-      pub each-low : (y : Bool) (d : ℕ) → v ≡ Done y d → d ≤ 65536
-      each-low y d q = done-is calls room one y d (sym q ∙ first) .few
+      pub each-low : (d : ℕ) → turnOf v ≡ Next d → d ≤ 65536
+      each-low d q = done-is calls room one false d (said-no d q) .few
 
-      pub each-no : (d : ℕ) → v ≡ Done false d → (e₂ : List ℕ) (v₂ : Verdict)
+      pub each-no : (d : ℕ) → turnOf v ≡ Next d → (e₂ : List ℕ) (v₂ : Verdict)
           → Walked e rows e₂ v₂ d room (anyFrom (usefulAlt bytes counts ars (usefulOf bytes counts ars) (n - 1) (matrix nodes left n (take rows e)) (newRow w row)) (key + 1) (more - 1))
           → Walked s rows e₂ v₂ calls room (anyFrom (usefulAlt bytes counts ars (usefulOf bytes counts ars) (n - 1) (matrix nodes left n (take rows s)) (newRow w row)) key more)
       unfolding one
       each-no d q e₂ v₂ h₂ = record {
         kept = h₂ .kept ∙ h .kept;
         is = h₂ .is ∙ ap (λ (x : List ℕ). limited d room (anyFrom (usefulAlt bytes counts ars (usefulOf bytes counts ars) (n - 1) (matrix nodes left n x) (newRow w row)) (key + 1) (more - 1))) (h .kept)
-            ∙ any-no (usefulAlt bytes counts ars (usefulOf bytes counts ars) (n - 1) (matrix nodes left n (take rows s)) (newRow w row)) key calls room more d p (sym q ∙ first);
+            ∙ any-no (usefulAlt bytes counts ars (usefulOf bytes counts ars) (n - 1) (matrix nodes left n (take rows s)) (newRow w row)) key calls room more d p (said-no d q);
       }
 
     pub each-none : (calls : ℕ) → more ≡ 0 → calls ≤ 65536 → Walked s rows s (Done false calls) calls room (anyFrom (usefulAlt bytes counts ars (usefulOf bytes counts ars) (n - 1) (matrix nodes left n (take rows s)) (newRow w row)) key more)

@@ -6,6 +6,8 @@ use matrix::specialize;
 use outcomes::Verdict;
 use outcomes::leaf;
 use outcomes::over;
+use turns::Turn;
+use turns::after;
 ghost use mathlib.Core.List.{map};
 ghost use Prim.Native.Nat.{_+_, _-_, _≤_, _<_};
 ghost use lib.ListN.{take};
@@ -91,15 +93,10 @@ fn try_each(
         calls,
         room,
     );
-    let Verdict::Done { yes, calls: c } = r else {
-        return Verdict::Over;
+    let turn = after(r);
+    let Turn::Next { calls: c } = turn else {
+        return r;
     };
-    if yes {
-        return Verdict::Done {
-            yes: true,
-            calls: c,
-        };
-    }
     try_each(
         bytes,
         nodes,

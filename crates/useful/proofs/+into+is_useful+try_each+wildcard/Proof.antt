@@ -1,6 +1,5 @@
 -- The cycle of `is_useful` meets its contracts: each call is ready for its work, the measure falls, and each answer is what the limits make of the definition.
-use Rattle.outcomes.specs.declared.Verdict.the-variants.{Done}
-use Rattle.useful.proofs.Calls.{height, work-kept, into-length, into-ready, into-falls, into-walked, each-none, each-into-falls, each-work, each-low, each-falls, each-over, each-yes, each-no, wild-work, wild-into-falls, wild-each-falls, wild-into, wild-each, useful-falls, useful-invented, row-some, row-split, useful-wild, useful-own, useful-own-falls}
+use Rattle.useful.proofs.Calls.{height, work-kept, into-length, into-ready, into-falls, into-walked, each-none, each-into-falls, each-work, each-low, each-falls, each-last, each-no, wild-work, wild-into-falls, wild-each-falls, wild-into, wild-each, useful-falls, useful-invented, row-some, row-split, useful-wild, useful-own, useful-own-falls}
 use Rattle.matrix.proofs.Specialised.{matrix-length, steady, few-places}
 use Rattle.matrix.proofs.Seen.{listed-next}
 use Rattle.ctors.proofs.Found.{complete-seen}
@@ -39,6 +38,7 @@ use Rattle.matrix.proofs.arity.Reads as arity-reads
 use Rattle.matrix.proofs.specialize.Reads as specialize-reads
 use Rattle.ctors.proofs.collect_ctors.Reads as collect-ctors-reads
 use Rattle.outcomes.proofs.over.Reads as over-reads
+use Rattle.turns.proofs.after.Reads as after-reads
 use Rattle.outcomes.proofs.leaf.Reads as leaf-reads
 use Rattle.useful.proofs.+into+is_useful+try_each+wildcard.{statement}
 use Rattle.useful.proofs.+into+is_useful+try_each+wildcard.Tie.{close}
@@ -90,7 +90,7 @@ abbrev is-useful-claims : ℕ → is-useful-lts.Claims
 is-useful-claims t = (over-reads.Asked, over-reads.Learnt, leaf-reads.Asked, leaf-reads.Learnt, wildcard-below t, wildcard.Post, into-below t, into.Post)
 
 abbrev try-each-claims : ℕ → try-each-lts.Claims
-try-each-claims t = (arity-reads.Asked, arity-reads.Learnt, into-below t, into.Post, try-each-below t, try-each.Post)
+try-each-claims t = (arity-reads.Asked, arity-reads.Learnt, into-below t, into.Post, after-reads.Asked, after-reads.Learnt, try-each-below t, try-each.Post)
 
 abbrev wildcard-claims : ℕ → wildcard-lts.Claims
 wildcard-claims t = (collect-ctors-reads.Asked, collect-ctors-reads.Learnt, into-below t, into.Post, try-each-below t, try-each.Post)
@@ -409,8 +409,12 @@ try-each-into-requires t c κs =
     let p : 0 < a .more = omega (arith, c .before .before .if1 .left) in
     (each-into-falls (a .bytes .now) (a .nodes .now) (a .left .now) (a .counts .now) (a .arities .now) low (a .row .now) (a .w) (a .n) (a .key) (a .more) (a .s .now) (a .rows) (a .room) r t (c .before .arity .result) (c .before .arity .ensures) sn p (q .1) (c .before .before .before .before .before .before .before .before .before .before .pre .0), each-work (a .bytes .now) (a .nodes .now) (a .left .now) (a .counts .now) (a .arities .now) low (a .row .now) (a .w) (a .n) (a .key) (a .more) (a .s .now) (a .rows) (a .room) r (c .before .arity .result) (c .before .arity .ensures))
 
-try-each-enum-known-r : (t : ℕ) → try-each-lts.Need-enum-known-r (try-each-claims t) (try-each-at t) try-each.Post
-try-each-enum-known-r t c =
+try-each-after-requires : (t : ℕ) → try-each-lts.Need-after-requires (try-each-claims t) (try-each-at t) try-each.Post
+try-each-after-requires t c κs =
+    tt
+
+try-each-enum-known-turn : (t : ℕ) → try-each-lts.Need-enum-known-turn (try-each-claims t) (try-each-at t) try-each.Post
+try-each-enum-known-turn t c =
     search needs
 
 try-each-enum-told : (t : ℕ) → try-each-lts.Need-enum-told (try-each-claims t) (try-each-at t) try-each.Post
@@ -419,27 +423,15 @@ try-each-enum-told t c =
 
 try-each-same-length : (t : ℕ) → try-each-lts.Need-same-length (try-each-claims t) (try-each-at t) try-each.Post
 try-each-same-length t c =
-    c .before .before .before .before .into .kept .1 .1 .1 .1 .1 .1 .1 .1 .1 .0
+    c .before .before .before .before .before .into .kept .1 .1 .1 .1 .1 .1 .1 .1 .1 .0
 
 try-each-returns-2 : (t : ℕ) → try-each-lts.Need-returns-2 (try-each-claims t) (try-each-at t) try-each.Post
 try-each-returns-2 t c =
-    let a = c .before .before .before .before .before .before .before .before .before .before .before .before .before .before .before .args in
-    let r = c .before .before .before .before .before .before .before .before .before .before .before .before .before .before .before .pre .1 .0 in
-    let low : (h : ℕ) → arOf (a .arities .now) h ≤ 255 = arity-byte (a .arities .now) (λ i. omega (arith, c .before .before .before .before .before .before .before .before .before .before .shared-slice-known5 .given i)) in
-    let p : 0 < a .more = omega (arith, c .before .before .before .before .before .before .before .if1 .left) in
-    each-over (a .bytes .now) (a .nodes .now) (a .left .now) (a .counts .now) (a .arities .now) low (a .row .now) (a .w) (a .n) (a .key) (a .more) (a .s .now) (a .rows) (a .room) r (a .calls) (c .before .before .before .before .before .before .arity .result) (c .before .before .before .before .before .before .arity .ensures) p (c .before .before .before .before .into .last .1 .1 .1 .1 .1 .1 .1 .1 .1 .0) (c .before .before .before .before .into .result) (c .before .before .before .before .into .ensures) (c .enum-told .given .1)
-
-try-each-same-length-2 : (t : ℕ) → try-each-lts.Need-same-length-2 (try-each-claims t) (try-each-at t) try-each.Post
-try-each-same-length-2 t c =
-    c .before .before .before .before .before .before .into .kept .1 .1 .1 .1 .1 .1 .1 .1 .1 .0
-
-try-each-returns-3 : (t : ℕ) → try-each-lts.Need-returns-3 (try-each-claims t) (try-each-at t) try-each.Post
-try-each-returns-3 t c =
-    let a = c .before .before .before .before .before .before .before .before .before .before .before .before .before .before .before .before .before .args in
-    let r = c .before .before .before .before .before .before .before .before .before .before .before .before .before .before .before .before .before .pre .1 .0 in
-    let low : (h : ℕ) → arOf (a .arities .now) h ≤ 255 = arity-byte (a .arities .now) (λ i. omega (arith, c .before .before .before .before .before .before .before .before .before .before .before .before .shared-slice-known5 .given i)) in
-    let p : 0 < a .more = omega (arith, c .before .before .before .before .before .before .before .before .before .if1 .left) in
-    each-yes (a .bytes .now) (a .nodes .now) (a .left .now) (a .counts .now) (a .arities .now) low (a .row .now) (a .w) (a .n) (a .key) (a .more) (a .s .now) (a .rows) (a .room) r (a .calls) (c .before .before .before .before .before .before .before .before .arity .result) (c .before .before .before .before .before .before .before .before .arity .ensures) p (c .before .before .before .before .before .before .into .last .1 .1 .1 .1 .1 .1 .1 .1 .1 .0) (c .before .before .before .before .before .before .into .result) (c .before .before .before .before .before .before .into .ensures) (c .before .before .r .given .0 .1 .0) (c .before .before .r .given .1 ∙ ap (λ y. Done y (c .before .before .r .given .0 .1 .0)) (c .if2 .taken))
+    let a = c .before .before .before .before .before .before .before .before .before .before .before .before .before .before .before .before .args in
+    let r = c .before .before .before .before .before .before .before .before .before .before .before .before .before .before .before .before .pre .1 .0 in
+    let low : (h : ℕ) → arOf (a .arities .now) h ≤ 255 = arity-byte (a .arities .now) (λ i. omega (arith, c .before .before .before .before .before .before .before .before .before .before .before .shared-slice-known5 .given i)) in
+    let p : 0 < a .more = omega (arith, c .before .before .before .before .before .before .before .before .if1 .left) in
+    each-last (a .bytes .now) (a .nodes .now) (a .left .now) (a .counts .now) (a .arities .now) low (a .row .now) (a .w) (a .n) (a .key) (a .more) (a .s .now) (a .rows) (a .room) r (a .calls) (c .before .before .before .before .before .before .before .arity .result) (c .before .before .before .before .before .before .before .arity .ensures) p (c .before .before .before .before .before .into .last .1 .1 .1 .1 .1 .1 .1 .1 .1 .0) (c .before .before .before .before .before .into .result) (c .before .before .before .before .before .into .ensures) (sym (c .before .before .after .ensures) ∙ c .enum-told .given .1)
 
 try-each-add-try-each : (t : ℕ) → try-each-lts.Need-add-try-each (try-each-claims t) (try-each-at t) try-each.Post
 try-each-add-try-each t c =
@@ -462,7 +454,7 @@ try-each-try-each-requires t c κs =
     let p : 0 < a .more = omega (arith, c .before .before .before .before .before .before .before .before .before .before .if1 .left) in
     let k = c .before .before .before .before .before .before .before .into .ensures .kept in
     let e = c .before .before .before .before .before .before .before .into .last .1 .1 .1 .1 .1 .1 .1 .1 .1 .0 in
-    let d : c .before .before .before .r .given .0 .1 .0 ≤ 65536 = each-low (a .bytes .now) (a .nodes .now) (a .left .now) (a .counts .now) (a .arities .now) low (a .row .now) (a .w) (a .n) (a .key) (a .more) (a .s .now) (a .rows) (a .room) r (a .calls) (c .before .before .before .before .before .before .before .before .before .arity .result) (c .before .before .before .before .before .before .before .before .before .arity .ensures) p (c .before .before .before .before .before .before .before .into .last .1 .1 .1 .1 .1 .1 .1 .1 .1 .0) (c .before .before .before .before .before .before .before .into .result) (c .before .before .before .before .before .before .before .into .ensures) (c .before .before .before .r .given .0 .0) (c .before .before .before .r .given .0 .1 .0) (c .before .before .before .r .given .1) in (
+    let d : c .before .before .turn .given .0 .0 ≤ 65536 = each-low (a .bytes .now) (a .nodes .now) (a .left .now) (a .counts .now) (a .arities .now) low (a .row .now) (a .w) (a .n) (a .key) (a .more) (a .s .now) (a .rows) (a .room) r (a .calls) (c .before .before .before .before .before .before .before .before .before .arity .result) (c .before .before .before .before .before .before .before .before .before .arity .ensures) p e (c .before .before .before .before .before .before .before .into .result) (c .before .before .before .before .before .before .before .into .ensures) (c .before .before .turn .given .0 .0) (sym (c .before .before .before .before .after .ensures) ∙ c .before .before .turn .given .1) in (
       each-falls (a .bytes .now) (a .nodes .now) (a .left .now) (a .counts .now) (a .arities .now) low (a .row .now) (a .w) (a .n) (a .key) (a .more) (a .s .now) (a .rows) (a .room) r t e k p (c .before .before .before .before .before .before .before .before .before .before .before .before .before .before .before .before .before .before .pre .0),
       (
         work-kept (a .bytes .now) (a .nodes .now) (a .left .now) (a .counts .now) (a .arities .now) (a .row .now) (a .w) (a .n - 1) (a .n) (a .s .now) (a .rows) (a .room) r e k (c .before .before .before .before .before .before .before .into .kept .1 .1 .1 .1 .1 .1 .1 .1 .1 .0),
@@ -473,17 +465,17 @@ try-each-try-each-requires t c κs =
       ),
     )
 
-try-each-same-length-3 : (t : ℕ) → try-each-lts.Need-same-length-3 (try-each-claims t) (try-each-at t) try-each.Post
-try-each-same-length-3 t c =
+try-each-same-length-2 : (t : ℕ) → try-each-lts.Need-same-length-2 (try-each-claims t) (try-each-at t) try-each.Post
+try-each-same-length-2 t c =
     c .before .before .try-each .kept .1 .1 .1 .1 .1 .1 .1 .1 .1 .1 .0 ∙ c .before .before .before .before .before .before .before .before .before .before .into .kept .1 .1 .1 .1 .1 .1 .1 .1 .1 .0
 
-try-each-returns-4 : (t : ℕ) → try-each-lts.Need-returns-4 (try-each-claims t) (try-each-at t) try-each.Post
-try-each-returns-4 t c =
+try-each-returns-3 : (t : ℕ) → try-each-lts.Need-returns-3 (try-each-claims t) (try-each-at t) try-each.Post
+try-each-returns-3 t c =
     let a = c .before .before .before .before .before .before .before .before .before .before .before .before .before .before .before .before .before .before .before .before .before .args in
     let r = c .before .before .before .before .before .before .before .before .before .before .before .before .before .before .before .before .before .before .before .before .before .pre .1 .0 in
     let low : (h : ℕ) → arOf (a .arities .now) h ≤ 255 = arity-byte (a .arities .now) (λ i. omega (arith, c .before .before .before .before .before .before .before .before .before .before .before .before .before .before .before .before .shared-slice-known5 .given i)) in
     let p : 0 < a .more = omega (arith, c .before .before .before .before .before .before .before .before .before .before .before .before .before .if1 .left) in
-    each-no (a .bytes .now) (a .nodes .now) (a .left .now) (a .counts .now) (a .arities .now) low (a .row .now) (a .w) (a .n) (a .key) (a .more) (a .s .now) (a .rows) (a .room) r (a .calls) (c .before .before .before .before .before .before .before .before .before .before .before .before .arity .result) (c .before .before .before .before .before .before .before .before .before .before .before .before .arity .ensures) p (c .before .before .before .before .before .before .before .before .before .before .into .last .1 .1 .1 .1 .1 .1 .1 .1 .1 .0) (c .before .before .before .before .before .before .before .before .before .before .into .result) (c .before .before .before .before .before .before .before .before .before .before .into .ensures) (c .before .before .before .before .before .before .r .given .0 .1 .0) (c .before .before .before .before .before .before .r .given .1 ∙ ap (λ y. Done y (c .before .before .before .before .before .before .r .given .0 .1 .0)) (c .before .before .before .before .if2 .left)) (c .before .before .try-each .last .1 .1 .1 .1 .1 .1 .1 .1 .1 .1 .0) (c .before .before .try-each .result) (c .before .before .try-each .ensures)
+    each-no (a .bytes .now) (a .nodes .now) (a .left .now) (a .counts .now) (a .arities .now) low (a .row .now) (a .w) (a .n) (a .key) (a .more) (a .s .now) (a .rows) (a .room) r (a .calls) (c .before .before .before .before .before .before .before .before .before .before .before .before .arity .result) (c .before .before .before .before .before .before .before .before .before .before .before .before .arity .ensures) p (c .before .before .before .before .before .before .before .before .before .before .into .last .1 .1 .1 .1 .1 .1 .1 .1 .1 .0) (c .before .before .before .before .before .before .before .before .before .before .into .result) (c .before .before .before .before .before .before .before .before .before .before .into .ensures) (c .before .before .before .before .before .turn .given .0 .0) (sym (c .before .before .before .before .before .before .before .after .ensures) ∙ c .before .before .before .before .before .turn .given .1) (c .before .before .try-each .last .1 .1 .1 .1 .1 .1 .1 .1 .1 .1 .0) (c .before .before .try-each .result) (c .before .before .try-each .ensures)
 
 wildcard-slice-reshare-prefix-collect-ctors : (t : ℕ) → wildcard-lts.Need-slice-reshare-prefix-collect-ctors (wildcard-claims t) (wildcard-at t) wildcard.Post
 wildcard-slice-reshare-prefix-collect-ctors t c =
@@ -601,17 +593,16 @@ pub +into+is-useful+try-each+wildcard-spec : {M : Type 1} → statement M
     (try-each-arity-requires t)
     (try-each-add-into t)
     (try-each-into-requires t)
-    (try-each-enum-known-r t)
+    (try-each-after-requires t)
+    (try-each-enum-known-turn t)
     (try-each-enum-told t)
     (try-each-same-length t)
     (try-each-returns-2 t)
-    (try-each-same-length-2 t)
-    (try-each-returns-3 t)
     (try-each-add-try-each t)
     (try-each-sub-try-each t)
     (try-each-try-each-requires t)
-    (try-each-same-length-3 t)
-    (try-each-returns-4 t))
+    (try-each-same-length-2 t)
+    (try-each-returns-3 t))
     λ t. wildcard-lts.spec (wildcard-claims t)
     (wildcard-at t)
     wildcard.Post

@@ -1,0 +1,2 @@
+-- What follows a verdict.
+pub mod Turns
