@@ -3,12 +3,13 @@ use cells::at8;
 use cells::at16;
 use cells::wide8;
 use cells::wide16;
+use heads::base;
 ghost use mathlib.Core.Path.{_≡_};
 ghost use mathlib.Core.Bool.{false};
 ghost use mathlib.Core.List.{map};
 ghost use Prim.Native.Nat.{ℕ, _+_, _≤_, _<_};
 ghost use lib.ListN.{getD};
-ghost use Rattle.matrix.specs.Numbers.{firstOf, mem, baseOf, countOf};
+ghost use Rattle.matrix.specs.Numbers.{firstOf, mem, countOf};
 ghost use Rattle.matrix.specs.Places.{headAt, upTo, Few};
 
 // The head of the row p of n patterns: a wildcard where it is invented.
@@ -47,14 +48,6 @@ pub fn first(nodes: &[u16], left: &[u16], counts: &[u8], ps: &[u16], n: usize) -
         i += 1;
     }
     found
-}
-
-// The first constructor of the type of constructor h.
-pub fn base(h: u16) -> u16
-    requires { ⌜ 0 < h ⌝ }
-    ensures { λ r. ⌜ r ≡ baseOf h ⌝ }
-{
-    h - (h - 1) % 32
 }
 
 // How many constructors the type has whose first constructor is b.

@@ -1,9 +1,9 @@
 // What is seen in a column: all constructors of its type, or those that are left, as a set.
 use column::all;
-use column::base;
 use column::count;
 use column::first;
 use column::seen;
+use heads::base;
 ghost use mathlib.Core.Path.{_≡_};
 ghost use mathlib.Core.List.{map};
 ghost use Prim.Native.Nat.{_≤_};

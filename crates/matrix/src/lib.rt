@@ -3,6 +3,8 @@ use cells::at8;
 use cells::at16;
 use cells::wide8;
 use cells::wide16;
+use heads::Alike;
+use heads::compare;
 ghost use mathlib.Core.Path.{_≡_};
 ghost use mathlib.Core.List.{_++_};
 ghost use Prim.Native.Nat.{_+_, _≤_, _<_};
@@ -20,21 +22,15 @@ pub fn arity(arities: &[u8], node: u16) -> usize
     wide8(at8(arities, wide16(node) - 1))
 }
 
-// Whether two literals, at their places among the bytes, are equal: kind, length and bytes.
+// Whether two literals, at their places among the bytes, are equal: kind, length and bytes, one after another.
 fn same_literal(bytes: &[u8], a: usize, b: usize) -> bool
     requires { ⌜ (a < 65536) × (b < 65536) ⌝ }
     ensures { λ r. ⌜ r ≡ sameLit (now (bytes .entry)) a b ⌝ }
 {
-    if at8(bytes, a) != at8(bytes, b) {
-        return false;
-    }
-    let n = wide8(at8(bytes, a + 1));
-    if n != wide8(at8(bytes, b + 1)) {
-        return false;
-    }
+    let n = 2 + wide8(at8(bytes, a + 1));
     let mut i = 0;
     while i < n {
-        if at8(bytes, a + 2 + i) != at8(bytes, b + 2 + i) {
+        if at8(bytes, a + i) != at8(bytes, b + i) {
             return false;
         }
         i += 1;
@@ -46,13 +42,12 @@ fn same_literal(bytes: &[u8], a: usize, b: usize) -> bool
 fn same_node(bytes: &[u8], h: u16, key: u16) -> bool
     ensures { λ r. ⌜ r ≡ sameNode (now (bytes .entry)) h key ⌝ }
 {
-    if h < 32768 {
-        return h == key;
+    let c = compare(h, key);
+    match c {
+        Alike::Same => true,
+        Alike::Other => false,
+        Alike::Literals => same_literal(bytes, wide16(h - 32768), wide16(key - 32768)),
     }
-    if key < 32768 {
-        return false;
-    }
-    same_literal(bytes, wide16(h - 32768), wide16(key - 32768))
 }
 
 pub enum Next {

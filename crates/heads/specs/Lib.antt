@@ -1,0 +1,2 @@
+-- What nodes' numbers say.
+pub mod Heads
