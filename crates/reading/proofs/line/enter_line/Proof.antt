@@ -60,16 +60,16 @@ returns-5 c =
 
 enter-use-requires : tie.Need-enter-use-requires
 enter-use-requires c κs =
-    let k = as-kind (c .before .before .before .before .before .before .before .before .before .before .before .before .before .before .before .before .args .bytes .now) (c .before .before .before .before .before .before .before .before .before .before .before .before .before .before .before .before .args .at) (c .before .before .before .before .before .before .before .before .before .before .before .before .before .before .before .before .args .s) (c .before .before .before .before .before .before .before .before .before .before .before .before .before .last-ctors .result) (c .before .before .before .before .before .before .before .before .before .before .before .before .kind-of .result) (c .before .before .before .before .before .before .before .before .before .before .before .before .kind-of .ensures) (c .before .before .before .before .before .before .before .before .before .before .k2 .given .0 .0) (c .before .before .before .before .before .before .before .before .before .before .k2 .given .1) in
-    let w = c .before .before .before .before .before .before .before .before .before .before .before .before .before .before .before .before .pre .0 .says in
-    let none = c .before .before .before .before .before .before .before .before .match2 .rest in
-    (few-types w (c .before .before .before .before .before .before .before .before .before .before .before .before .before .last-ctors .result) (c .before .before .before .before .before .before .before .before .before .before .before .before .before .last-ctors .ensures) (c .before .before .before .before .before .before .before .before .before .before .before .before .before .before .before .before .args .at), use-asks w (c .before .before .before .before .before .before .before .before .before .before .before .before .before .last-ctors .result) (c .before .before .before .before .before .before .before .before .before .before .before .before .before .last-ctors .ensures) (c .before .before .before .before .before .before .before .before .before .before .before .before .before .before .before .before .args .at) (c .before .before .before .before .before .before .before .before .before .before .before .before .before .before .before .before .pre .1 .0) (c .before .before .before .before .before .before .before .before .before .before .k2 .given .0 .0) (k .0) (k .1 .0) (k .1 .1) (none .0 .0 .1) (none .0 .1) (none .1) (c .before .before .before .before .before .before .before .before .before .before .before .before .before .before .before .before .pre .1 .1 .0) (c .before .before .before .before .before .before .before .before .before .before .before .before .before .before .before .before .pre .1 .1 .1))
+    let k = as-kind (c .before .before .before .before .before .before .before .before .before .before .before .before .before .before .before .before .before .before .before .before .before .args .bytes .now) (c .before .before .before .before .before .before .before .before .before .before .before .before .before .before .before .before .before .before .before .before .before .args .at) (c .before .before .before .before .before .before .before .before .before .before .before .before .before .before .before .before .before .before .before .before .before .args .s) (c .before .before .before .before .before .before .before .before .before .before .before .before .before .before .before .before .before .before .last-ctors .result) (c .before .before .before .before .before .before .before .before .before .before .before .before .before .before .before .before .before .kind-of .result) (c .before .before .before .before .before .before .before .before .before .before .before .before .before .before .before .before .before .kind-of .ensures) (c .before .before .before .before .before .before .before .before .before .before .before .before .before .before .before .k2 .given .0 .0) (c .before .before .before .before .before .before .before .before .before .before .before .before .before .before .before .k2 .given .1) in
+    let w = c .before .before .before .before .before .before .before .before .before .before .before .before .before .before .before .before .before .before .before .before .before .pre .0 .says in
+    let none = c .before .before .before .before .before .before .before .before .before .before .before .before .before .match2 .rest in
+    (few-types w (c .before .before .before .before .before .before .before .before .before .before .before .before .before .before .before .before .before .before .last-ctors .result) (c .before .before .before .before .before .before .before .before .before .before .before .before .before .before .before .before .before .before .last-ctors .ensures) (c .before .before .before .before .before .before .before .before .before .before .before .before .before .before .before .before .before .before .before .before .before .args .at), use-asks w (c .before .before .before .before .before .before .before .before .before .before .before .before .before .before .before .before .before .before .last-ctors .result) (c .before .before .before .before .before .before .before .before .before .before .before .before .before .before .before .before .before .before .last-ctors .ensures) (c .before .before .before .before .before .before .before .before .before .before .before .before .before .before .before .before .before .before .before .before .before .args .at) (c .before .before .before .before .before .before .before .before .before .before .before .before .before .before .before .before .before .before .before .before .before .pre .1 .0) (c .before .before .before .before .before .before .before .before .before .before .before .before .before .before .before .k2 .given .0 .0) (k .0) (k .1 .0) (k .1 .1) (none .0 .0 .1) (none .0 .1) (none .1) (c .before .before .before .before .before .before .before .before .before .before .before .before .before .before .before .before .before .before .before .before .before .pre .1 .1 .0) (c .before .before .before .before .before .before .before .before .before .before .before .before .before .before .before .before .before .before .before .before .before .pre .1 .1 .1))
 
 returns-6 : tie.Need-returns-6
 returns-6 c =
-    let k = as-kind (c .before .before .before .before .before .before .before .before .before .before .before .before .before .before .before .before .before .args .bytes .now) (c .before .before .before .before .before .before .before .before .before .before .before .before .before .before .before .before .before .args .at) (c .before .before .before .before .before .before .before .before .before .before .before .before .before .before .before .before .before .args .s) (c .before .before .before .before .before .before .before .before .before .before .before .before .before .before .last-ctors .result) (c .before .before .before .before .before .before .before .before .before .before .before .before .before .kind-of .result) (c .before .before .before .before .before .before .before .before .before .before .before .before .before .kind-of .ensures) (c .before .before .before .before .before .before .before .before .before .before .before .k2 .given .0 .0) (c .before .before .before .before .before .before .before .before .before .before .before .k2 .given .1) in
-    let none = c .before .before .before .before .before .before .before .before .before .match2 .rest in
-    λ σ w. use-line w (c .before .before .before .before .before .before .before .before .before .before .before .before .before .before .last-ctors .result) (c .before .before .before .before .before .before .before .before .before .before .before .before .before .before .last-ctors .ensures) (c .before .before .before .before .before .before .before .before .before .before .before .before .before .before .before .before .before .args .at) (c .before .before .before .before .before .before .before .before .before .before .before .before .before .before .before .before .before .pre .1 .0) (c .before .before .before .before .before .before .before .before .before .before .before .k2 .given .0 .0) (k .0) (k .1 .0) (k .1 .1) (c .before .before .before .before .before .before .before .before .before .before .before .before .before .before .before .before .before .pre .1 .1 .0) (none .0 .0 .1) (none .0 .1) (none .1) (c .enter-use .result) (c .enter-use .ensures)
+    let k = as-kind (c .before .before .before .before .before .before .before .before .before .before .before .before .before .before .before .before .before .before .before .before .before .before .args .bytes .now) (c .before .before .before .before .before .before .before .before .before .before .before .before .before .before .before .before .before .before .before .before .before .before .args .at) (c .before .before .before .before .before .before .before .before .before .before .before .before .before .before .before .before .before .before .before .before .before .before .args .s) (c .before .before .before .before .before .before .before .before .before .before .before .before .before .before .before .before .before .before .before .last-ctors .result) (c .before .before .before .before .before .before .before .before .before .before .before .before .before .before .before .before .before .before .kind-of .result) (c .before .before .before .before .before .before .before .before .before .before .before .before .before .before .before .before .before .before .kind-of .ensures) (c .before .before .before .before .before .before .before .before .before .before .before .before .before .before .before .before .k2 .given .0 .0) (c .before .before .before .before .before .before .before .before .before .before .before .before .before .before .before .before .k2 .given .1) in
+    let none = c .before .before .before .before .before .before .before .before .before .before .before .before .before .before .match2 .rest in
+    λ σ w. use-line w (c .before .before .before .before .before .before .before .before .before .before .before .before .before .before .before .before .before .before .before .last-ctors .result) (c .before .before .before .before .before .before .before .before .before .before .before .before .before .before .before .before .before .before .before .last-ctors .ensures) (c .before .before .before .before .before .before .before .before .before .before .before .before .before .before .before .before .before .before .before .before .before .before .args .at) (c .before .before .before .before .before .before .before .before .before .before .before .before .before .before .before .before .before .before .before .before .before .before .pre .1 .0) (c .before .before .before .before .before .before .before .before .before .before .before .before .before .before .before .before .k2 .given .0 .0) (k .0) (k .1 .0) (k .1 .1) (c .before .before .before .before .before .before .before .before .before .before .before .before .before .before .before .before .before .before .before .before .before .before .pre .1 .1 .0) (none .0 .0 .1) (none .0 .1) (none .1) (c .enter-use .result) (c .enter-use .ensures)
 
 pub enter-line-spec : {M : Type 1} → statement M
 enter-line-spec =
