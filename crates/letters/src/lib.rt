@@ -1,7 +1,8 @@
 // Classes of bytes: ranges, letters, digits; and texts of digits.
+use digits::is_hex;
+use digits::is_leading;
 ghost use mathlib.Core.Path.{_≡_};
 ghost use Rattle.scope.specs.Lists.{among, all};
-ghost use Rattle.scope.specs.Lines.{isHex};
 ghost use Rattle.scope.specs.Frames.{isUpper, isLower, isDigit, isSmall, isBig, isPositive, isDecimal};
 ghost use Rattle.letters.specs.Classes.{digitOf};
 
@@ -59,16 +60,6 @@ pub fn is_big(b: u8) -> bool
     is_small(b)
 }
 
-// A lower-case hexadecimal digit.
-fn is_hex(d: u8) -> bool
-    ensures { λ r. ⌜ r ≡ isHex d ⌝ }
-{
-    if among(48, 57, d) {
-        return true;
-    }
-    among(97, 102, d)
-}
-
 // A digit, decimal or hexadecimal.
 fn is_digit_of(hex: bool, b: u8) -> bool
     ensures { λ r. ⌜ r ≡ digitOf hex b ⌝ }
@@ -100,7 +91,7 @@ fn is_positive(t: &[u8]) -> bool
     if t.len() == 0 {
         return false;
     }
-    if !among(49, 57, t[0]) {
+    if !is_leading(t[0]) {
         return false;
     }
     all_digits(false, &t[1..])

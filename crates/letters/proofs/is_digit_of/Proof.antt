@@ -2,11 +2,13 @@
 use mathlib.Core.Path.{sym, ap, _∙_}
 use mathlib.Core.Bool.{Bool}
 use Rattle.letters.specs.Classes.{digitOf}
+use Rattle.scope.specs.Lines.{isHex}
 use borrow.Author.Needs.{needs}
 use Rattle.letters.proofs.is_digit_of.Statement.{statement}
 use Rattle.letters.proofs.is_digit_of.Tie as tie
 
 returns : tie.Need-returns
+unfolding isHex
 returns c =
     c .is-hex .ensures ∙ ap (λ (x : Bool). digitOf x (c .before .before .args .b)) (sym (c .before .if1 .taken))
 

@@ -13,11 +13,11 @@ returns c =
 
 returns-2 : tie.Need-returns-2
 returns-2 c =
-    and-left _ _ (sym (c .before .among .ensures) ∙ not-true _ (c .if2 .taken)) ∙ sym (positive-law (c .before .before .before .before .before .args .t .now) (omega arith))
+    and-left _ _ (sym (c .before .is-leading .ensures) ∙ not-true _ (c .if2 .taken)) ∙ sym (positive-law (c .before .before .before .before .before .args .t .now) (omega arith))
 
 returns-3 : tie.Need-returns-3
 returns-3 c =
-    and-right _ _ _ (sym (c .before .before .before .among .ensures) ∙ not-false _ (c .before .before .if2 .left)) (sym (c .all-digits .ensures)) ∙ sym (positive-law (c .before .before .before .before .before .before .before .args .t .now) (omega arith))
+    and-right _ _ _ (sym (c .before .before .before .is-leading .ensures) ∙ not-false _ (c .before .before .if2 .left)) (sym (c .all-digits .ensures)) ∙ sym (positive-law (c .before .before .before .before .before .before .before .args .t .now) (omega arith))
 
 pub is-positive-spec : {M : Type 1} → statement M
 is-positive-spec =
