@@ -1,2 +1,3 @@
 -- Laws of words and numbers.
+pub mod Decimals
 pub mod Wording

@@ -10,7 +10,19 @@ ghost use Rattle.writing.specs.Writing.{Wrote};
 use cells::wide8;
 use writing::all;
 use writing::byte;
-use writing::decimal;
+
+// A number in decimal, which has at most 20 digits.
+fn decimal(out: &mut [u8], at: usize, n: usize) -> usize
+    requires { ⌜ at + 32 < 2 ^ 64 ⌝ }
+    ensures { λ r. ⌜ Wrote (now (out .entry)) (now (out .exit)) at r (decimalText n) ⌝ }
+    ensures { λ r. ⌜ r ≤ at + 20 ⌝ }
+{
+    if n < 10 {
+        return byte(out, at, 48 + ((n % 10) as u8));
+    }
+    let next = decimal(out, at, n / 10);
+    byte(out, next, 48 + ((n % 10) as u8))
+}
 
 // One word or the other.
 pub fn either(yes: bool, out: &mut [u8], at: usize, word: &[u8], other: &[u8]) -> usize

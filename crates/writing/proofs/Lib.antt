@@ -1,4 +1,3 @@
--- Laws of writing and of numbers in decimal.
+-- Laws of writing.
 pub mod Writing
-pub mod Decimals
 pub mod Once

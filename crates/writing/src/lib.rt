@@ -1,8 +1,7 @@
-// Bytes, byte strings and decimal numbers, pasted at a place and cut at the buffer's end.
+// Bytes and byte strings, pasted at a place and cut at the buffer's end.
 ghost use mathlib.Core.List.{[], _∷_};
-ghost use Prim.Native.Nat.{_+_, _<_, _≤_, _^_};
+ghost use Prim.Native.Nat.{_+_, _<_, _^_};
 ghost use lib.ListN.{length};
-ghost use Rattle.scope.specs.Text.{decimal as decimalText};
 ghost use Rattle.writing.specs.Writing.{Wrote};
 use cells::put8;
 
@@ -25,17 +24,4 @@ pub fn all(out: &mut [u8], at: usize, text: &[u8]) -> usize
         i += 1;
     }
     at + text.len()
-}
-
-// A number in decimal, which has at most 20 digits.
-pub fn decimal(out: &mut [u8], at: usize, n: usize) -> usize
-    requires { ⌜ at + 32 < 2 ^ 64 ⌝ }
-    ensures { λ r. ⌜ Wrote (now (out .entry)) (now (out .exit)) at r (decimalText n) ⌝ }
-    ensures { λ r. ⌜ r ≤ at + 20 ⌝ }
-{
-    if n < 10 {
-        return byte(out, at, 48 + ((n % 10) as u8));
-    }
-    let next = decimal(out, at, n / 10);
-    byte(out, next, 48 + ((n % 10) as u8))
 }

@@ -1,16 +1,16 @@
 -- `decimal` meets its contract: the digits of the tenth, then one more. The number falls.
 use mathlib.Core.Path.{_∙_}
 use native.Mathlib.Omega.{arith}
-use Rattle.writing.proofs.Decimals.{decimal-one, decimal-more}
+use Rattle.wording.proofs.Decimals.{decimal-one, decimal-more}
 use Prim.Native.Nat.{ℕ, _<_}
 use borrow.Fn.Kinds.{In}
 use borrow.Fn.PlainCycle.{Measures, is, falls, and}
-use Rattle.writing.proofs.decimal.Reads as decimal
-use Rattle.writing.proofs.decimal.Kinds as decimal-kinds
-use Rattle.writing.proofs.+decimal.Lts-decimal as decimal-lts
+use Rattle.wording.proofs.decimal.Reads as decimal
+use Rattle.wording.proofs.decimal.Kinds as decimal-kinds
+use Rattle.wording.proofs.+decimal.Lts-decimal as decimal-lts
 use Rattle.writing.proofs.byte.Reads as byte-reads
-use Rattle.writing.proofs.+decimal.{statement}
-use Rattle.writing.proofs.+decimal.Tie.{close}
+use Rattle.wording.proofs.+decimal.{statement}
+use Rattle.wording.proofs.+decimal.Tie.{close}
 
 abbrev μ-decimal : Measures 1 decimal-kinds.ps ℕ
 μ-decimal κs a = a .1 .1 .0
