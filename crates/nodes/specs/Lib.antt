@@ -1,3 +1,4 @@
--- The numbers of nodes, and how many patterns are left beside them.
+-- The numbers of nodes, how many patterns are left beside them, and the open patterns with the items that they stand for.
 pub mod Keys
 pub mod Lefts
+pub mod Opens

@@ -15,7 +15,7 @@ use Rattle.scope.specs.Frames.{Read, found, patterns}
 use Rattle.layout.specs.Nodes.{nodeOf, rowOf, Literals, done, placesIn}
 use Rattle.nodes.proofs.Runs.{stores, literals-append, places-append}
 use Rattle.suits.specs.Raws.{rawAt, sizeAt, ownPlace}
-use Rattle.opens.specs.Opens.{opens, pending, due}
+use Rattle.nodes.specs.Opens.{opens, pending, due}
 use Rattle.settle.specs.declared.Next.the-variants.{Read as Next·Read, Done, Wrong}
 use Rattle.patterns.specs.Rows.{literalPlaces, Ready, Given, Turned, Answers, Reading}
 use Rattle.patterns.specs.declared.Simplified.{Simplified}

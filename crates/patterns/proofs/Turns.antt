@@ -23,8 +23,8 @@ use Rattle.suits.specs.declared.Suit.{Suit}
 use Rattle.suits.specs.declared.Suit.the-variants.{Leaf, Again, Cells, Args, Unfit}
 use Rattle.suits.proofs.Facts.{list-facts}
 use Rattle.suits.proofs.Suiting.{Counted, counted, agree}
-use Rattle.opens.specs.Opens.{opening, markOf, fieldItems, listItems, itemsOf, wanted, opens, pending, due}
-use Rattle.opens.specs.declared.Open.{Open}
+use Rattle.nodes.specs.Opens.{opening, markOf, fieldItems, listItems, itemsOf, wanted, opens, pending, due}
+use Rattle.nodes.specs.declared.Open.{Open}
 use Rattle.settle.specs.Settled.{restOf, Due, Ends, Settled}
 use Rattle.settle.specs.declared.Next.{Next}
 use Rattle.settle.specs.declared.Next.the-variants.{Read, Done, Wrong}

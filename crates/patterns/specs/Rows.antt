@@ -12,7 +12,7 @@ use Rattle.scope.specs.Frames.{found, patterns}
 use Rattle.layout.specs.Types.{Shape, Fielded}
 use Rattle.layout.specs.Nodes.{rowOf, leftOf, Literals, placesIn, StandsAt}
 use Rattle.suits.specs.Raws.{rawAt, sizeAt, ownPlace}
-use Rattle.opens.specs.Opens.{opens, pending, due}
+use Rattle.nodes.specs.Opens.{opens, pending, due}
 use Rattle.settle.specs.Settled.{restOf, Due, Ends}
 use Rattle.settle.specs.declared.Next.{Next}
 use Rattle.settle.specs.declared.Next.the-variants.{Read, Done, Wrong}

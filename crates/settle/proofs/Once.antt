@@ -8,8 +8,8 @@ use Rattle.scope.proofs.Tests.{clash}
 use Rattle.scope.specs.Patterns.{Row, Item, put, pat}
 use Rattle.layout.specs.Nodes.{rowOf}
 use Rattle.nodes.proofs.Numbers.{same-nodes}
-use Rattle.opens.specs.Opens.{due}
-use Rattle.opens.specs.declared.Open.{Open}
+use Rattle.nodes.specs.Opens.{due}
+use Rattle.nodes.specs.declared.Open.{Open}
 use Rattle.settle.specs.Settled.{restOf, Due, Ends, Settled}
 use Rattle.settle.specs.declared.Next.{Next}
 use Rattle.settle.specs.declared.Next.the-variants.{Read, Done, Wrong}

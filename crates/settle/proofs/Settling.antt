@@ -9,9 +9,9 @@ use lib.Seq.{sets}
 use Rattle.scope.specs.Patterns.{Item, put, pat}
 use Rattle.layout.specs.Nodes.{rowOf, Literals, done, placesIn}
 use Rattle.nodes.proofs.Runs.{stores, puts-append, literals-append, no-places, both-plain}
-use Rattle.opens.specs.Opens.{wanted, openAt, opens, pending, due, cellOf, taken, endOf}
-use Rattle.opens.specs.declared.Open.{Open}
-use Rattle.opens.proofs.Pending.{opens-top, cell-plain, cell-literals, cell-short, end-plain, end-literals, end-short, taken-items, taken-due, tail-items, tail-due, end-items, end-due}
+use Rattle.nodes.specs.Opens.{wanted, openAt, opens, pending, due, cellOf, taken, endOf}
+use Rattle.nodes.specs.declared.Open.{Open}
+use Rattle.nodes.proofs.Pending.{opens-top, cell-plain, cell-literals, cell-short, end-plain, end-literals, end-short, taken-items, taken-due, tail-items, tail-due, end-items, end-due}
 use Rattle.settle.specs.Settled.{restOf, Due, Ends, Settled}
 use Rattle.settle.specs.declared.Next.{Next}
 use Rattle.settle.specs.declared.Next.the-variants.{Read, Done, Wrong}

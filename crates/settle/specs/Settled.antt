@@ -6,8 +6,8 @@ use lib.ListN.{length}
 use lib.Seq.{sets}
 use Rattle.scope.specs.Patterns.{Item, put, pat}
 use Rattle.layout.specs.Nodes.{rowOf, Literals, placesIn}
-use Rattle.opens.specs.Opens.{opens, pending, due}
-use Rattle.opens.specs.declared.Open.{Open}
+use Rattle.nodes.specs.Opens.{opens, pending, due}
+use Rattle.nodes.specs.declared.Open.{Open}
 use Rattle.settle.specs.declared.Next.{Next}
 use Rattle.settle.specs.declared.Next.the-variants.{Read, Done, Wrong}
 

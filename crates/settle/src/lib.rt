@@ -3,18 +3,18 @@ use cells::at8;
 use cells::put16;
 use cells::wide8;
 use cells::wide16;
-use opens::Open;
-use opens::cell;
-use opens::finish;
-use opens::list_type;
-use opens::push;
-use opens::take_one;
-use opens::top;
-use opens::wants;
+use nodes::Open;
+use nodes::cell;
+use nodes::finish;
+use nodes::list_type;
+use nodes::push;
+use nodes::take_one;
+use nodes::top;
+use nodes::wants;
 ghost use mathlib.Core.List.{List, _∷_};
 ghost use Prim.Native.Nat.{ℕ, _+_, _*_, _≤_, _<_, _^_};
 ghost use lib.ListN.{length, set};
-ghost use Rattle.opens.specs.Opens.{wanted, opens};
+ghost use Rattle.nodes.specs.Opens.{wanted, opens};
 ghost use Rattle.settle.specs.Settled.{Settled};
 
 // What comes after a pattern: the type of the next one to read, or none, or a pattern that does not suit.

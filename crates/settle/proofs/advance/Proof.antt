@@ -4,9 +4,9 @@ use mathlib.Core.List.{_∷_}
 use Prim.Native.Nat.{ℕ, _+_, _*_, _≤_}
 use native.Mathlib.Omega.{arith}
 use lib.ListN.{length, getD}
-use Rattle.opens.specs.Opens.{opens}
-use Rattle.opens.specs.declared.Open.{Open}
-use Rattle.opens.proofs.Pending.{pushed}
+use Rattle.nodes.specs.Opens.{opens}
+use Rattle.nodes.specs.declared.Open.{Open}
+use Rattle.nodes.proofs.Pending.{pushed}
 use Rattle.settle.proofs.Settling.{advance-tail, advance-taken}
 use borrow.Author.Needs.{needs}
 use Rattle.settle.proofs.advance.Statement.{statement}

@@ -2,8 +2,8 @@
 use mathlib.Core.Path.{subst}
 use mathlib.Core.List.{List}
 use Prim.Native.Nat.{_+_}
-use Rattle.opens.specs.declared.Open.{Open}
-use Rattle.opens.proofs.Pending.{pushed}
+use Rattle.nodes.specs.declared.Open.{Open}
+use Rattle.nodes.proofs.Pending.{pushed}
 use Rattle.settle.specs.Settled.{Settled}
 use borrow.Author.Needs.{needs}
 use Rattle.settle.proofs.begin.Statement.{statement}

@@ -2,7 +2,7 @@
 use mathlib.Core.Path.{subst₂}
 use mathlib.Core.List.{List}
 use Prim.Native.Nat.{ℕ}
-use Rattle.opens.specs.Opens.{opens}
+use Rattle.nodes.specs.Opens.{opens}
 use Rattle.settle.specs.Settled.{Settled}
 use borrow.Author.Needs.{needs}
 use Rattle.settle.proofs.leaf.Statement.{statement}

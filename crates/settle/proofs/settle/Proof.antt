@@ -6,8 +6,8 @@ use native.Mathlib.Omega.{arith}
 use lib.ListN.{length}
 use lib.Seq.{length-sets}
 use borrow.Author.Tests.{ltb-true, ltb-false}
-use Rattle.opens.specs.Opens.{wanted, opens}
-use Rattle.opens.specs.declared.Open.{Open}
+use Rattle.nodes.specs.Opens.{wanted, opens}
+use Rattle.nodes.specs.declared.Open.{Open}
 use Rattle.settle.proofs.Settling.{next-open, Settling, settle-start, settle-end, settle-done, settle-more}
 use Rattle.settle.proofs.settle.Statement.{statement}
 use Rattle.settle.proofs.settle.Tie as tie

@@ -1,8 +1,8 @@
--- `opens::finish` meets its contract: the end of a list, or wildcards.
-use Rattle.opens.proofs.Marks.{finish-list, finish-args}
+-- `nodes::finish` meets its contract: the end of a list, or wildcards.
+use Rattle.nodes.proofs.Marks.{finish-list, finish-args}
 use borrow.Author.Needs.{needs}
-use Rattle.opens.proofs.finish.Statement.{statement}
-use Rattle.opens.proofs.finish.Tie as tie
+use Rattle.nodes.proofs.finish.Statement.{statement}
+use Rattle.nodes.proofs.finish.Tie as tie
 
 returns : tie.Need-returns
 returns c =

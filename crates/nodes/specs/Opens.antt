@@ -8,8 +8,8 @@ use Rattle.scope.specs.Lists.{bit, flatten, sum}
 use Rattle.scope.specs.Types.{Ref}
 use Rattle.scope.specs.Patterns.{Node, wild, Item, put, pat}
 use Rattle.layout.specs.Nodes.{nodeOf}
 use Rattle.nodes.specs.Keys.{keyOf}
-use Rattle.opens.specs.declared.Open.{Open}
+use Rattle.nodes.specs.declared.Open.{Open}
 
 -- an open pattern by its three cells
 abbrev pub opening : ℕ → ℕ → ℕ → Open

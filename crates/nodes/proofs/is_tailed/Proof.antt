@@ -1,7 +1,7 @@
--- `opens::is_tailed` meets its contract.
-use Rattle.opens.proofs.Marks.{no-list, some-list}
-use Rattle.opens.proofs.is_tailed.Statement.{statement}
-use Rattle.opens.proofs.is_tailed.Tie as tie
+-- `nodes::is_tailed` meets its contract.
+use Rattle.nodes.proofs.Marks.{no-list, some-list}
+use Rattle.nodes.proofs.is_tailed.Statement.{statement}
+use Rattle.nodes.proofs.is_tailed.Tie as tie
 
 returns : tie.Need-returns
 returns c =

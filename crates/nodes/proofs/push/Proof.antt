@@ -1,9 +1,9 @@
--- `opens::push` meets its contract: three stores.
+-- `nodes::push` meets its contract: three stores.
 use Prim.Native.Nat.{_*_}
-use Rattle.opens.proofs.Marks.{three-stores}
+use Rattle.nodes.proofs.Marks.{three-stores}
 use borrow.Author.Needs.{needs}
-use Rattle.opens.proofs.push.Statement.{statement}
-use Rattle.opens.proofs.push.Tie as tie
+use Rattle.nodes.proofs.push.Statement.{statement}
+use Rattle.nodes.proofs.push.Tie as tie
 
 returns : tie.Need-returns
 returns c =

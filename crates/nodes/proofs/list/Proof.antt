@@ -1,8 +1,8 @@
--- `opens::list` meets its contract: the three cells.
-use Rattle.opens.proofs.Marks.{same-open}
+-- `nodes::list` meets its contract: the three cells.
+use Rattle.nodes.proofs.Marks.{same-open}
 use borrow.Author.Needs.{needs}
-use Rattle.opens.proofs.list.Statement.{statement}
-use Rattle.opens.proofs.list.Tie as tie
+use Rattle.nodes.proofs.list.Statement.{statement}
+use Rattle.nodes.proofs.list.Tie as tie
 
 returns : tie.Need-returns
 returns c =

@@ -1,8 +1,8 @@
--- `opens::wants` meets its contract: a pattern before its tail or its end, or a tail.
-use Rattle.opens.proofs.Marks.{wants-more, wants-tail}
+-- `nodes::wants` meets its contract: a pattern before its tail or its end, or a tail.
+use Rattle.nodes.proofs.Marks.{wants-more, wants-tail}
 use borrow.Author.Needs.{needs}
-use Rattle.opens.proofs.wants.Statement.{statement}
-use Rattle.opens.proofs.wants.Tie as tie
+use Rattle.nodes.proofs.wants.Statement.{statement}
+use Rattle.nodes.proofs.wants.Tie as tie
 
 returns : tie.Need-returns
 returns c =

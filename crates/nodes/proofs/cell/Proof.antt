@@ -1,8 +1,8 @@
--- `opens::cell` meets its contract: a cell at a list, else nothing.
-use Rattle.opens.proofs.Marks.{cell-none, cell-list}
+-- `nodes::cell` meets its contract: a cell at a list, else nothing.
+use Rattle.nodes.proofs.Marks.{cell-none, cell-list}
 use borrow.Author.Needs.{needs}
-use Rattle.opens.proofs.cell.Statement.{statement}
-use Rattle.opens.proofs.cell.Tie as tie
+use Rattle.nodes.proofs.cell.Statement.{statement}
+use Rattle.nodes.proofs.cell.Tie as tie
 
 returns : tie.Need-returns
 returns c =

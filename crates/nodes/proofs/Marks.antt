@@ -9,9 +9,9 @@ use lib.Seq.{sets}
 use lib.Dec.{ltb, leb, eqb}
 use borrow.Author.Tests.{le-leb, lt-leb, lt-ltb}
 use Rattle.scope.specs.Lists.{bit}
 use Rattle.nodes.specs.Keys.{low16, keyOf}
-use Rattle.opens.specs.Opens.{opening, markOf, wanted, taken, cellOf, endOf}
-use Rattle.opens.specs.declared.Open.{Open}
+use Rattle.nodes.specs.Opens.{opening, markOf, wanted, taken, cellOf, endOf}
+use Rattle.nodes.specs.declared.Open.{Open}
 
 -- cells that are equal
 pub same-open : {a b c x y z : ℕ} → a ≡ x → b ≡ y → c ≡ z → opening a b c ≡ opening x y z

@@ -12,10 +12,10 @@ use lib.Dec.{leb, eqb}
 use Rattle.scope.specs.Lists.{bit, sum}
 use Rattle.scope.specs.Patterns.{wild, Item, put, pat}
 use Rattle.layout.specs.Nodes.{nodeOf, rowOf, Literals, done, also, placesIn}
 use Rattle.nodes.specs.Keys.{keyOf}
 use Rattle.nodes.proofs.Runs.{no-literals, plain-one, plain-wilds, no-places}
-use Rattle.opens.specs.Opens.{opening, fieldItems, listItems, itemsOf, wanted, openAt, opens, pending, due, cellOf, taken, endOf}
-use Rattle.opens.specs.declared.Open.{Open}
+use Rattle.nodes.specs.Opens.{opening, fieldItems, listItems, itemsOf, wanted, openAt, opens, pending, due, cellOf, taken, endOf}
+use Rattle.nodes.specs.declared.Open.{Open}
 
 -- a store above the first k open patterns leaves them
 opens-set : (stack : List ℕ) (i x k : ℕ) → 3 * k ≤ i → opens (set stack i x) k ≡ opens stack k

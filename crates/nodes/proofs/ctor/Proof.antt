@@ -1,8 +1,8 @@
--- `opens::ctor` meets its contract: the three cells.
-use Rattle.opens.proofs.Marks.{same-open}
+-- `nodes::ctor` meets its contract: the three cells.
+use Rattle.nodes.proofs.Marks.{same-open}
 use borrow.Author.Needs.{needs}
-use Rattle.opens.proofs.ctor.Statement.{statement}
-use Rattle.opens.proofs.ctor.Tie as tie
+use Rattle.nodes.proofs.ctor.Statement.{statement}
+use Rattle.nodes.proofs.ctor.Tie as tie
 
 returns : tie.Need-returns
 returns c =

@@ -1,8 +1,8 @@
--- `opens::mark` meets its contract: both marks fit 16 bits.
+-- `nodes::mark` meets its contract: both marks fit 16 bits.
 use native.Mathlib.Omega.{arith}
-use Rattle.opens.proofs.Marks.{mark-tail, mark-end}
-use Rattle.opens.proofs.mark.Statement.{statement}
-use Rattle.opens.proofs.mark.Tie as tie
+use Rattle.nodes.proofs.Marks.{mark-tail, mark-end}
+use Rattle.nodes.proofs.mark.Statement.{statement}
+use Rattle.nodes.proofs.mark.Tie as tie
 
 mul-low : tie.Need-mul-low
 mul-low c = omega arith

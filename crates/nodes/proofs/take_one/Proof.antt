@@ -1,10 +1,10 @@
--- `opens::take_one` meets its contract: a list keeps its field, a constructor goes on to the next.
+-- `nodes::take_one` meets its contract: a list keeps its field, a constructor goes on to the next.
 use mathlib.Core.Path.{refl, ap, _∙_}
 use Prim.Native.Nat.{ℕ, _+_, _-_, _%_}
-use Rattle.opens.proofs.Marks.{taken-list, taken-args}
+use Rattle.nodes.proofs.Marks.{taken-list, taken-args}
 use borrow.Author.Needs.{needs}
-use Rattle.opens.proofs.take_one.Statement.{statement}
-use Rattle.opens.proofs.take_one.Tie as tie
+use Rattle.nodes.proofs.take_one.Statement.{statement}
+use Rattle.nodes.proofs.take_one.Tie as tie
 
 returns : tie.Need-returns
 returns c =

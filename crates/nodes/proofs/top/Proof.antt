@@ -1,8 +1,8 @@
--- `opens::top` meets its contract: the three cells.
-use Rattle.opens.proofs.Marks.{same-open}
+-- `nodes::top` meets its contract: the three cells.
+use Rattle.nodes.proofs.Marks.{same-open}
 use borrow.Author.Needs.{needs}
-use Rattle.opens.proofs.top.Statement.{statement}
-use Rattle.opens.proofs.top.Tie as tie
+use Rattle.nodes.proofs.top.Statement.{statement}
+use Rattle.nodes.proofs.top.Tie as tie
 
 returns : tie.Need-returns
 returns c =

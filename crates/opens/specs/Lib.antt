@@ -1,2 +1,0 @@
--- The open patterns and the items that they stand for.
-pub mod Opens
