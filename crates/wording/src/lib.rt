@@ -1,4 +1,4 @@
-// Words and numbers: one word or another, a word with its number, and the lines made of both: the calls, a refusal.
+// Words and numbers: a number in decimal, one word or another, a word with its number, and the lines made of both: the calls, a refusal.
 ghost use mathlib.Core.Bool.{cond};
 ghost use mathlib.Core.List.{_++_};
 ghost use Prim.Native.Nat.{_+_, _≤_, _<_, _^_};
