@@ -1,5 +1,5 @@
 -- The verdicts' lines, verdict by verdict.
-use mathlib.Core.Path.{_≡_, refl, ap, sym, _∙_}
+use mathlib.Core.Path.{_≡_, refl, ap, ap₂, sym, _∙_}
 use mathlib.Core.List.{List, [], _∷_, _++_, append-assoc, append-nil}
 use mathlib.Core.Bool.{Bool, true, false, cond}
 use Prim.Native.Nat.{ℕ, suc, _+_, _-_, _<_}
@@ -13,7 +13,7 @@ use Rattle.scope.specs.Lists.{Text, bytes, bit}
 use Rattle.scope.specs.Text.{decimal}
 use Rattle.scope.specs.Report.{yeses, noes, line, countLine, verdictWord, clauseLines}
 use Rattle.writing.specs.Writing.{Wrote}
-use Rattle.verdicts.specs.Verdicts.{said}
+use Rattle.verdicts.specs.Verdicts.{said, countsText}
 use Rattle.writing.proofs.Writing.{wrote-as}
 use Rattle.wording.proofs.Wording.{then-numbered, then-ended}
 
@@ -43,18 +43,18 @@ both-counts (true ∷ vs) = omega (arith, both-counts vs)
 both-counts (false ∷ vs) = omega (arith, both-counts vs)
 
 -- both counts, each after its word
-pub count-law : {a b c d : List ℕ} {at k l after : ℕ} (vs : List ℕ) (n : ℕ) → n ≡ yeses (said vs)
-    → Wrote a b at k (bytes "clauses " ++ decimal (length vs)) → Wrote b c k l (bytes " reached " ++ decimal n) → Wrote c d l after (line (bytes " never " ++ decimal (length vs - n))) → Wrote a d at after (countLine (said vs))
-count-law vs n e w x y =
-    let l : length vs ≡ length (said vs) = sym (said-length vs) in
-    let m : length vs - n ≡ noes (said vs) = omega (arith, both-counts (said vs)) in
-    let first = bytes "clauses " ++ decimal (length (said vs)) in
-    let second = first ++ bytes " reached " ++ decimal (yeses (said vs)) in
-    then-ended second (bytes " never ") (decimal (noes (said vs)))
-    (then-numbered first (bytes " reached ") (decimal (yeses (said vs)))
-    (wrote-as (ap (λ (j : ℕ). bytes "clauses " ++ decimal j) l) w)
-    (wrote-as (ap (λ (j : ℕ). bytes " reached " ++ decimal j) e) x))
-    (wrote-as (ap (λ (j : ℕ). line (bytes " never " ++ decimal j)) m) y)
+pub count-law : {a b c d : List ℕ} {at k l after : ℕ} (n y : ℕ)
+    → Wrote a b at k (bytes "clauses " ++ decimal n) → Wrote b c k l (bytes " reached " ++ decimal y) → Wrote c d l after (line (bytes " never " ++ decimal (n - y))) → Wrote a d at after (countsText n y)
+count-law n y u v w =
+    let first = bytes "clauses " ++ decimal n in
+    then-ended (first ++ bytes " reached " ++ decimal y) (bytes " never ") (decimal (n - y)) (then-numbered first (bytes " reached ") (decimal y) u v) w
+
+-- the counts of verdicts
+pub count-is : (vs : List ℕ) (y : ℕ) → y ≡ yeses (said vs) → countsText (length vs) y ≡ countLine (said vs)
+count-is vs y e =
+    let m : length vs - y ≡ noes (said vs) = omega (arith, both-counts (said vs), said-length vs) in
+    ap₂ (λ (n k : ℕ). line (bytes "clauses " ++ decimal n ++ bytes " reached " ++ decimal k ++ bytes " never " ++ decimal (length vs - y))) (sym (said-length vs)) e
+    ∙ ap (λ (k : ℕ). line (bytes "clauses " ++ decimal (length (said vs)) ++ bytes " reached " ++ decimal (yeses (said vs)) ++ bytes " never " ++ decimal k)) m
 
 -- the line of clause k
 abbrev pub clauseText : ℕ → Bool → Text

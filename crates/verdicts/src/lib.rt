@@ -1,6 +1,5 @@
 // The lines of the verdicts: how many are yes, one line a clause, and all that stands before the missing rows.
 ghost use mathlib.Core.Path.{_≡_};
-ghost use mathlib.Core.Bool.{cond};
 ghost use mathlib.Core.List.{_++_};
 ghost use Prim.Native.Nat.{_+_, _*_, _≤_, _<_, _^_};
 ghost use lib.ListN.{length};
@@ -9,7 +8,7 @@ ghost use Rattle.scope.specs.Lists.{bytes as text, bit};
 ghost use Rattle.scope.specs.Text.{decimal as decimalText};
 ghost use Rattle.scope.specs.Report.{yeses as yesesOf, line, countLine, verdictWord, clauseLines};
 ghost use Rattle.writing.specs.Writing.{Wrote};
-ghost use Rattle.verdicts.specs.Verdicts.{said};
+ghost use Rattle.verdicts.specs.Verdicts.{said, countsText};
 use wording::either;
 use wording::ended;
 use wording::numbered;
@@ -40,24 +39,15 @@ fn yeses(verdicts: &[u8]) -> usize
 }
 
 // Line 1 counts clauses and both verdicts.
-fn count_line(verdicts: &[u8], out: &mut [u8], at: usize) -> usize
+fn count_line(clauses: usize, yes: usize, out: &mut [u8], at: usize) -> usize
+    requires { ⌜ yes ≤ clauses ⌝ }
     requires { ⌜ at + 256 < 2 ^ 62 ⌝ }
-    ensures { λ r. ⌜ Wrote (now (out .entry)) (now (out .exit)) at r (countLine (said (now (verdicts .entry)))) ⌝ }
+    ensures { λ r. ⌜ Wrote (now (out .entry)) (now (out .exit)) at r (countsText clauses yes) ⌝ }
     ensures { λ r. ⌜ r ≤ at + 128 ⌝ }
 {
-    let yes = yeses(verdicts);
-    let a = numbered(out, at, b"clauses ", verdicts.len());
+    let a = numbered(out, at, b"clauses ", clauses);
     let b = numbered(out, a, b" reached ", yes);
-    ended(out, b, b" never ", verdicts.len() - yes)
-}
-
-// A verdict in a word, at the end of its line.
-fn verdict_word(yes: bool, out: &mut [u8], at: usize) -> usize
-    requires { ⌜ at + 16 < 2 ^ 62 ⌝ }
-    ensures { λ r. ⌜ Wrote (now (out .entry)) (now (out .exit)) at r (cond yes (text " reached\n") (text " never\n")) ⌝ }
-    ensures { λ r. ⌜ r ≤ at + 16 ⌝ }
-{
-    either(yes, out, at, b" reached\n", b" never\n")
+    ended(out, b, b" never ", clauses - yes)
 }
 
 // The line of clause k.
@@ -67,7 +57,7 @@ fn clause_line(k: usize, yes: bool, out: &mut [u8], at: usize) -> usize
     ensures { λ r. ⌜ r ≤ at + 64 ⌝ }
 {
     let next = numbered(out, at, b"clause ", k);
-    verdict_word(yes, out, next)
+    either(yes, out, next, b" reached\n", b" never\n")
 }
 
 // One line a clause.
@@ -93,7 +83,7 @@ pub fn head(verdicts: &[u8], gaps: usize, out: &mut [u8], at: usize) -> usize
     ensures { λ r. ⌜ Wrote (now (out .entry)) (now (out .exit)) at r (countLine (said (now (verdicts .entry))) ++ clauseLines 1 (said (now (verdicts .entry))) ++ line (text "gaps " ++ decimalText gaps)) ⌝ }
     ensures { λ r. ⌜ r ≤ at + 64 * length (now (verdicts .entry)) + 256 ⌝ }
 {
-    let a = count_line(verdicts, out, at);
+    let a = count_line(verdicts.len(), yeses(verdicts), out, at);
     let b = clause_lines(verdicts, out, a);
     ended(out, b, b"gaps ", gaps)
 }

@@ -5,17 +5,13 @@ use Rattle.verdicts.proofs.Verdicts.{count-law}
 use Rattle.verdicts.proofs.count_line.Statement.{statement}
 use Rattle.verdicts.proofs.count_line.Tie as tie
 
-yeses-requires : tie.Need-yeses-requires
-yeses-requires c κs =
-    tt
-
 slice-aggregate-numbered : tie.Need-slice-aggregate-numbered
 slice-aggregate-numbered c =
     refl
 
 numbered-requires : tie.Need-numbered-requires
 numbered-requires c κs =
-    omega (arith, c .before .before .before .before .before .pre)
+    omega (arith, c .before .before .before .pre .1)
 
 slice-aggregate-numbered-2 : tie.Need-slice-aggregate-numbered-2
 slice-aggregate-numbered-2 c =
@@ -23,7 +19,7 @@ slice-aggregate-numbered-2 c =
 
 numbered-requires-2 : tie.Need-numbered-requires-2
 numbered-requires-2 c κs =
-    omega (arith, c .before .before .before .before .before .before .before .before .before .before .pre, c .before .before .before .before .numbered .ensures .1)
+    omega (arith, c .before .before .before .before .before .before .before .before .pre .1, c .before .before .before .before .numbered .ensures .1)
 
 slice-aggregate-ended : tie.Need-slice-aggregate-ended
 slice-aggregate-ended c =
@@ -31,11 +27,11 @@ slice-aggregate-ended c =
 
 sub-ended : tie.Need-sub-ended
 sub-ended c =
-    c .before .before .before .before .before .before .before .before .before .before .before .before .yeses .ensures .1
+    c .before .before .before .before .before .before .before .before .before .before .before .before .before .pre .0
 
 ended-requires : tie.Need-ended-requires
 ended-requires c κs =
-    omega (arith, c .before .before .before .before .before .before .before .before .before .before .before .before .before .before .before .pre, c .before .before .before .before .before .before .before .before .before .numbered .ensures .1, c .before .before .before .before .numbered2 .ensures .1)
+    omega (arith, c .before .before .before .before .before .before .before .before .before .before .before .before .before .pre .1, c .before .before .before .before .before .before .before .before .before .numbered .ensures .1, c .before .before .before .before .numbered2 .ensures .1)
 
 same-length : tie.Need-same-length
 same-length c =
@@ -43,15 +39,12 @@ same-length c =
 
 returns : tie.Need-returns
 returns c =
-    let a = c .before .before .before .before .before .before .before .before .before .before .before .before .before .before .before .before .before .before .args in
-    let n = c .before .before .before .before .before .before .before .before .before .before .before .before .before .before .before .yeses .result in
-    (count-law (a .verdicts .now) n (c .before .before .before .before .before .before .before .before .before .before .before .before .before .before .before .yeses .ensures .0) (c .before .before .before .before .before .before .before .before .before .before .before .before .numbered .ensures .0) (c .before .before .before .before .before .before .before .numbered2 .ensures .0) (c .before .before .ended .ensures .0), omega (arith, c .before .before .before .before .before .before .before .before .before .before .before .before .numbered .ensures .1, c .before .before .before .before .before .before .before .numbered2 .ensures .1, c .before .before .ended .ensures .1))
+    (count-law (c .before .before .before .before .before .before .before .before .before .before .before .before .before .before .before .before .args .clauses) (c .before .before .before .before .before .before .before .before .before .before .before .before .before .before .before .before .args .yes) (c .before .before .before .before .before .before .before .before .before .before .before .before .numbered .ensures .0) (c .before .before .before .before .before .before .before .numbered2 .ensures .0) (c .before .before .ended .ensures .0), omega (arith, c .before .before .before .before .before .before .before .before .before .before .before .before .numbered .ensures .1, c .before .before .before .before .before .before .before .numbered2 .ensures .1, c .before .before .ended .ensures .1))
 
 pub count-line-spec : {M : Type 1} → statement M
 count-line-spec =
     tie.close
     (tie.spec
-    yeses-requires
     slice-aggregate-numbered
     numbered-requires
     slice-aggregate-numbered-2
