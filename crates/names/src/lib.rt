@@ -8,18 +8,10 @@ ghost use Rattle.scope.specs.Text.{startsWith, contains};
 // "::", "[]" and "__Tuple", one after another.
 const FIXED: [u8; 11] = *b"::[]__Tuple";
 
-const TUPLE: [u8; 7] = *b"__Tuple";
-
 pub fn fixed_names() -> [u8; 11]
     ensures { λ r. ⌜ r ≡ consName ++ nilName ++ tupleName ⌝ }
 {
     FIXED
-}
-
-pub fn tuple_name() -> [u8; 7]
-    ensures { λ r. ⌜ r ≡ tupleName ⌝ }
-{
-    TUPLE
 }
 
 // Two texts compared byte by byte.

@@ -14,8 +14,7 @@ pub enum Look {
 fn look_by_name(name: &[u8]) -> Look
     ensures { λ r. ⌜ r ≡ lookOf (lookByName (now (name .entry))) ⌝ }
 {
-    let tuple = names::tuple_name();
-    if names::contains(&tuple, name) {
+    if names::contains(b"__Tuple", name) {
         return Look::Round;
     }
     if names::same(name, b"::") {

@@ -1,18 +1,13 @@
 -- `naming::look_by_name` meets its contract.
 use mathlib.Core.Path.{refl, sym, ap, _∙_}
-use lib.ListN.{length}
 use Rattle.naming.specs.Naming.{lookOf}
 use Rattle.naming.proofs.Naming.{name-round, name-square, name-spelled}
 use Rattle.naming.proofs.look_by_name.Statement.{statement}
 use Rattle.naming.proofs.look_by_name.Tie as tie
 
-tuple-name-requires : tie.Need-tuple-name-requires
-tuple-name-requires c κs =
-    tt
-
 slice-aggregate-contains : tie.Need-slice-aggregate-contains
 slice-aggregate-contains c =
-    sym (ap length (c .before .tuple-name .ensures))
+    refl
 
 contains-requires : tie.Need-contains-requires
 contains-requires c κs =
@@ -20,7 +15,7 @@ contains-requires c κs =
 
 returns : tie.Need-returns
 returns c =
-    sym (ap lookOf (name-round (c .before .before .before .before .before .args .name .now) (c .before .before .before .tuple-name .result) (c .before .before .before .tuple-name .ensures) (sym (c .if1 .taken) ∙ c .before .contains .ensures)))
+    sym (ap lookOf (name-round (c .before .before .before .before .args .name .now) (sym (c .if1 .taken) ∙ c .before .contains .ensures)))
 
 slice-aggregate-same : tie.Need-slice-aggregate-same
 slice-aggregate-same c =
@@ -32,17 +27,16 @@ same-requires c κs =
 
 returns-2 : tie.Need-returns-2
 returns-2 c =
-    sym (ap lookOf (name-square (c .before .before .before .before .before .before .before .before .args .name .now) (c .before .before .before .before .before .before .tuple-name .result) (c .before .before .before .before .before .before .tuple-name .ensures) (sym (c .before .before .before .if1 .left) ∙ c .before .before .before .before .contains .ensures) (sym (c .if2 .taken) ∙ c .before .same .ensures)))
+    sym (ap lookOf (name-square (c .before .before .before .before .before .before .before .args .name .now) (sym (c .before .before .before .if1 .left) ∙ c .before .before .before .before .contains .ensures) (sym (c .if2 .taken) ∙ c .before .same .ensures)))
 
 returns-3 : tie.Need-returns-3
 returns-3 c =
-    sym (ap lookOf (name-spelled (c .before .before .before .before .before .before .before .before .args .name .now) (c .before .before .before .before .before .before .tuple-name .result) (c .before .before .before .before .before .before .tuple-name .ensures) (sym (c .before .before .before .if1 .left) ∙ c .before .before .before .before .contains .ensures) (sym (c .if2 .left) ∙ c .before .same .ensures)))
+    sym (ap lookOf (name-spelled (c .before .before .before .before .before .before .before .args .name .now) (sym (c .before .before .before .if1 .left) ∙ c .before .before .before .before .contains .ensures) (sym (c .if2 .left) ∙ c .before .same .ensures)))
 
 pub look-by-name-spec : {M : Type 1} → statement M
 look-by-name-spec =
     tie.close
     (tie.spec
-    tuple-name-requires
     slice-aggregate-contains
     contains-requires
     returns
