@@ -1,8 +1,6 @@
 // The lines of the missing rows, and the report.
-ghost use mathlib.Core.Bool.{cond};
 ghost use Prim.Native.Nat.{_+_, _-_, _*_, _≤_, _<_, _^_};
 ghost use lib.ListN.{length};
-ghost use Rattle.scope.specs.Lists.{bytes as text};
 ghost use Rattle.scope.specs.Types.{Table};
 ghost use Rattle.scope.specs.Report.{Findings, gapLines, report as reportText};
 ghost use Rattle.writing.specs.Writing.{Wrote};
@@ -16,15 +14,6 @@ use verdicts::head;
 use wording::calls_line;
 use wording::either;
 use writing::byte;
-
-// What stands before a missing row's text.
-fn gap_word(paste: bool, out: &mut [u8], at: usize) -> usize
-    requires { ⌜ at + 16 < 2 ^ 62 ⌝ }
-    ensures { λ r. ⌜ Wrote (now (out .entry)) (now (out .exit)) at r (cond paste (text "paste ") (text "missing ")) ⌝ }
-    ensures { λ r. ⌜ r ≤ at + 16 ⌝ }
-{
-    either(paste, out, at, b"paste ", b"missing ")
-}
 
 // A line of the missing row at p: the source's text, or the paste text.
 fn gap_text(
@@ -47,7 +36,7 @@ fn gap_text(
     ensures { λ r. ⌜ r .at ≤ at + 2 ^ 35 ⌝ }
     ensures { λ r. ⌜ Printed (slices (now (bytes .entry)) (now (kinds .entry)) (now (arities .entry)) (now (starts .entry)) (now (names .entry)) (now (labels .entry)) (now (nodes .entry))) (Many 1) p (r .p) (now (out .entry)) (now (out .exit)) at (r .at) (gapText (modeOf paste)) ⌝ }
 {
-    let next = gap_word(paste, out, at);
+    let next = either(paste, out, at, b"paste ", b"missing ");
     let one = pretty(
         paste,
         bytes,
