@@ -1,5 +1,5 @@
 -- One pattern's bytes and one type: each way of `suits` gives what its definition says there.
-use mathlib.Core.Path.{_≡_, refl}
+use mathlib.Core.Path.{_≡_, refl, ap}
 use mathlib.Core.Bool.{Bool, true, false, _&&_, _||_}
 use mathlib.Core.List.{List}
 use Prim.Native.Nat.{ℕ, zero, suc, _+_, _*_, _-_, _≤_, _<_}
@@ -7,7 +7,7 @@ use native.Mathlib.Omega.{arith}
 use lib.ListN.{getD}
 use lib.Dec.{leb, eqb}
 use borrow.Author.Tests.{lt-ltb, le-ltb}
-use Rattle.nodes.specs.Keys.{low16, literalKey}
+use Rattle.nodes.specs.Keys.{literalKey}
 use Rattle.rules.specs.Kinds.{suitsKind}
 use Rattle.suits.specs.Suits.{filledBy, argsOf, formOf, suitAt}
 use Rattle.suits.specs.declared.Suit.{Suit}
@@ -27,17 +27,14 @@ module _ (bytes counts arities : List ℕ) (at t : ℕ) where
   unfolding formOf
   is-assign w e = rw e
 
-  pub is-literal : (w n : ℕ) → 2 ≤ w → (w ≡ 2 → ⊥) → w < 5 → n ≡ low16 (literalKey at) → Is w (Leaf n)
+  pub is-literal : (w n : ℕ) → 3 ≤ w → w < 5 → n ≡ literalKey at → Is w (Leaf n)
   unfolding formOf
-  is-literal w n a b c e = let n′ : n ≡ literalKey at = omega arith in rw n′ (go w a b c)
-    where
-      go : (w : ℕ) → 2 ≤ w → (w ≡ 2 → ⊥) → w < 5 → Is w (Leaf (literalKey at))
-      go zero a b c = absurd (omega arith)
-      go (suc zero) a b c = absurd (omega arith)
-      go (suc (suc zero)) a b c = absurd (b refl)
-      go (suc (suc (suc zero))) a b c = refl
-      go (suc (suc (suc (suc zero)))) a b c = refl
-      go (suc (suc (suc (suc (suc w))))) a b c = absurd (omega arith)
+  is-literal zero n a c e = absurd (omega arith)
+  is-literal (suc zero) n a c e = absurd (omega arith)
+  is-literal (suc (suc zero)) n a c e = absurd (omega arith)
+  is-literal (suc (suc (suc zero))) n a c e = ap Leaf e
+  is-literal (suc (suc (suc (suc zero)))) n a c e = ap Leaf e
+  is-literal (suc (suc (suc (suc (suc w))))) n a c e = absurd (omega arith)
 
   pub is-pair : (w : ℕ) (s : Suit) → w ≡ 7 → s ≡ argsOf counts arities t 0 2 false → Is w s
   unfolding formOf
@@ -51,9 +48,9 @@ module _ (bytes counts arities : List ℕ) (at t : ℕ) where
   unfolding formOf
   is-list w a b e aIs bIs = rw (e, ← aIs, ← bIs)
 
-  pub is-ctor : (w a b f : ℕ) (s : Suit) → 5 ≤ w → (w ≡ 5 → ⊥) → (w ≡ 7 → ⊥) → w ≤ 7 → a ≡ getD bytes (at + 1) 0 → b ≡ getD bytes (at + 2) 0 → f ≡ getD bytes (at + 3) 0 → s ≡ argsOf counts arities t a b (eqb f 1) → Is w s
+  pub is-ctor : (w a b f : ℕ) (s : Suit) → w ≡ 6 → a ≡ getD bytes (at + 1) 0 → b ≡ getD bytes (at + 2) 0 → f ≡ getD bytes (at + 3) 0 → s ≡ argsOf counts arities t a b (eqb f 1) → Is w s
   unfolding formOf
-  is-ctor w a b f s l m n o aIs bIs fIs i = let e : w ≡ 6 = omega (arith, m, n) in rw (e, ← aIs, ← bIs, ← fIs) i
+  is-ctor w a b f s e aIs bIs fIs i = rw (e, ← aIs, ← bIs, ← fIs) i
 
 module _ (bytes kinds counts arities : List ℕ) (at t w k : ℕ) (ok : Bool) (wIs : w ≡ getD bytes at 0) (kIs : k ≡ getD kinds t 0) (okIs : ok ≡ suitsKind w k) where
   -- the type is of another kind

@@ -6,8 +6,8 @@ use rules::is_enough;
 use rules::suits_kind;
 use rules::wilds;
 ghost use mathlib.Core.Path.{_≡_};
-ghost use mathlib.Core.List.{List};
-ghost use Prim.Native.Nat.{ℕ, _<_, _≤_};
+ghost use Prim.Native.Nat.{_<_, _≤_};
+ghost use Rattle.nodes.specs.Keys.{literalKey};
 ghost use Rattle.suits.specs.Suits.{filledBy, argsOf, formOf, suitAt};
 
 // What the pattern at a place becomes, read at a type.
@@ -49,20 +49,12 @@ fn args(counts: &[u8], arities: &[u8], t: usize, c: usize, k: usize, spread: boo
     filled(c, k, spread, wide8(at8(arities, 32 * t + c)))
 }
 
-// A pattern without counts at `at`, whose type it suits.
-fn plain(what: u8, at: usize) -> Suit
-    requires { ⌜ what < 5 ⌝ }
-    ensures { λ r. ⌜ ((bytes counts arities : List ℕ) (t : ℕ) → r ≡ formOf bytes at counts arities t what) ⌝ }
+// The node of the literal at `at`.
+fn literal(at: usize) -> u16
+    requires { ⌜ at < 65536 ⌝ }
+    ensures { λ r. ⌜ r ≡ literalKey at ⌝ }
 {
-    if what < 2 {
-        return Suit::Leaf { node: 0 };
-    }
-    if what == 2 {
-        return Suit::Again;
-    }
-    Suit::Leaf {
-        node: low(32768 + at % 32768),
-    }
+    low(32768 + at % 32768)
 }
 
 // A list, a constructor, a pair or a tuple at `at`, whose kind of type it suits.
@@ -70,21 +62,17 @@ fn applied(bytes: &[u8], at: usize, what: u8, counts: &[u8], arities: &[u8], t: 
     requires { ⌜ (at < 65536) × (t < 16384) × (5 ≤ what) ⌝ }
     ensures { λ r. ⌜ r ≡ formOf (now (bytes .entry)) at (now (counts .entry)) (now (arities .entry)) t what ⌝ }
 {
-    if what == 7 {
-        return args(counts, arities, t, 0, 2, false);
-    }
     let a = wide8(at8(bytes, at + 1));
-    if 7 < what {
-        return args(counts, arities, t, 0, a, false);
-    }
     let b = at8(bytes, at + 2);
-    if what == 5 {
-        return Suit::Cells {
+    match what {
+        5 => Suit::Cells {
             more: a,
             tail: b == 1,
-        };
+        },
+        6 => args(counts, arities, t, a, wide8(b), at8(bytes, at + 3) == 1),
+        7 => args(counts, arities, t, 0, 2, false),
+        _ => args(counts, arities, t, 0, a, false),
     }
-    args(counts, arities, t, a, wide8(b), at8(bytes, at + 3) == 1)
 }
 
 // The pattern at `at`, read at type t.
@@ -96,8 +84,12 @@ pub fn suits(bytes: &[u8], at: usize, kinds: &[u8], counts: &[u8], arities: &[u8
     if !suits_kind(what, at8(kinds, t)) {
         return Suit::Unfit;
     }
-    if what < 5 {
-        return plain(what, at);
+    match what {
+        0 => Suit::Leaf { node: 0 },
+        1 => Suit::Leaf { node: 0 },
+        2 => Suit::Again,
+        3 => Suit::Leaf { node: literal(at) },
+        4 => Suit::Leaf { node: literal(at) },
+        _ => applied(bytes, at, what, counts, arities, t),
     }
-    applied(bytes, at, what, counts, arities, t)
 }

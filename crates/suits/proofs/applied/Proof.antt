@@ -1,17 +1,10 @@
--- `suits::applied` meets its contract: a pair, a tuple, a list, a constructor.
+-- `suits::applied` meets its contract: a list, a constructor, a pair, a tuple.
 use mathlib.Core.Path.{_∙_}
-use Rattle.suits.proofs.Small.{is-pair, is-tuple, is-list, is-ctor}
+use native.Mathlib.Omega.{arith}
+use Rattle.suits.proofs.Small.{is-list, is-ctor, is-pair, is-tuple}
 use borrow.Author.Needs.{needs}
 use Rattle.suits.proofs.applied.Statement.{statement}
 use Rattle.suits.proofs.applied.Tie as tie
-
-args-requires : tie.Need-args-requires
-args-requires c κs = search needs
-
-returns : tie.Need-returns
-returns c =
-    let a = c .before .before .before .before .before .args in
-    is-pair (a .bytes .now) (a .counts .now) (a .arities .now) (a .at) (a .t) (a .what) (c .args2 .result) (c .before .if1 .taken) (c .args2 .ensures)
 
 add-at8 : tie.Need-add-at8
 add-at8 c = search needs
@@ -22,24 +15,11 @@ at8-requires c κs = search needs
 wide8-requires : tie.Need-wide8-requires
 wide8-requires c κs = search needs
 
-args-requires-2 : tie.Need-args-requires-2
-args-requires-2 c κs = search needs
-
-returns-2 : tie.Need-returns-2
-returns-2 c =
-    let a = c .before .before .before .before .before .before .before .before .args in
-    is-tuple (a .bytes .now) (a .counts .now) (a .arities .now) (a .at) (a .t) (a .what) (c .before .before .wide8 .result) (c .args3 .result) (c .before .if2 .taken) (c .before .before .wide8 .ensures ∙ c .before .before .before .at8 .ensures) (c .args3 .ensures)
-
 add-at8-2 : tie.Need-add-at8-2
 add-at8-2 c = search needs
 
 at8-requires-2 : tie.Need-at8-requires-2
 at8-requires-2 c κs = search needs
-
-returns-3 : tie.Need-returns-3
-returns-3 c =
-    let a = c .before .before .before .before .before .before .before .before .before .args in
-    is-list (a .bytes .now) (a .counts .now) (a .arities .now) (a .at) (a .t) (a .what) (c .before .before .before .wide8 .result) (c .before .at82 .result) (c .if3 .taken) (c .before .before .before .wide8 .ensures ∙ c .before .before .before .before .at8 .ensures) (c .before .at82 .ensures)
 
 wide8-requires-2 : tie.Need-wide8-requires-2
 wide8-requires-2 c κs = search needs
@@ -50,30 +30,52 @@ add-at8-3 c = search needs
 at8-requires-3 : tie.Need-at8-requires-3
 at8-requires-3 c κs = search needs
 
+args-requires : tie.Need-args-requires
+args-requires c κs = search needs
+
+args-requires-2 : tie.Need-args-requires-2
+args-requires-2 c κs = search needs
+
 args-requires-3 : tie.Need-args-requires-3
 args-requires-3 c κs = search needs
 
+returns : tie.Need-returns
+returns c =
+    let a = c .before .before .before .before .before .before .before .args in
+    is-list (a .bytes .now) (a .counts .now) (a .arities .now) (a .at) (a .t) (a .what) (c .before .before .wide8 .result) (c .before .at82 .result) (c .match .keys1) (c .before .before .wide8 .ensures ∙ c .before .before .before .at8 .ensures) (c .before .at82 .ensures)
+
+returns-2 : tie.Need-returns-2
+returns-2 c =
+    let a = c .before .before .before .before .before .before .before .before .before .before .args in
+    is-ctor (a .bytes .now) (a .counts .now) (a .arities .now) (a .at) (a .t) (a .what) (c .before .before .before .before .before .wide8 .result) (c .before .before .wide82 .result) (c .before .at83 .result) (c .args2 .result) (c .before .before .before .match .keys2) (c .before .before .before .before .before .wide8 .ensures ∙ c .before .before .before .before .before .before .at8 .ensures) (c .before .before .wide82 .ensures ∙ c .before .before .before .before .at82 .ensures) (c .before .at83 .ensures) (c .args2 .ensures)
+
+returns-3 : tie.Need-returns-3
+returns-3 c =
+    let a = c .before .before .before .before .before .before .before .before .args in
+    is-pair (a .bytes .now) (a .counts .now) (a .arities .now) (a .at) (a .t) (a .what) (c .args3 .result) (c .before .match .keys3) (c .args3 .ensures)
+
 returns-4 : tie.Need-returns-4
 returns-4 c =
-    let a = c .before .before .before .before .before .before .before .before .before .before .before .before .args in
-    is-ctor (a .bytes .now) (a .counts .now) (a .arities .now) (a .at) (a .t) (a .what) (c .before .before .before .before .before .before .wide8 .result) (c .before .before .wide82 .result) (c .before .at83 .result) (c .args4 .result) (c .before .before .before .before .before .before .before .before .before .before .before .before .pre .2) (c .before .before .before .if3 .left) (c .before .before .before .before .before .before .before .before .if1 .left) (c .before .before .before .before .before .if2 .left) (c .before .before .before .before .before .before .wide8 .ensures ∙ c .before .before .before .before .before .before .before .at8 .ensures) (c .before .before .wide82 .ensures ∙ c .before .before .before .before .at82 .ensures) (c .before .at83 .ensures) (c .args4 .ensures)
+    let a = c .before .before .before .before .before .before .before .before .args in
+    let m = c .before .match .rest in
+    is-tuple (a .bytes .now) (a .counts .now) (a .arities .now) (a .at) (a .t) (a .what) (c .before .before .before .wide8 .result) (c .args4 .result) (omega (arith, c .before .before .before .before .before .before .before .before .pre .2, m .0 .0 .1, m .0 .1, m .1)) (c .before .before .before .wide8 .ensures ∙ c .before .before .before .before .at8 .ensures) (c .args4 .ensures)
 
 pub applied-spec : {M : Type 1} → statement M
 applied-spec =
     tie.close
     (tie.spec
-    args-requires
-    returns
     add-at8
     at8-requires
     wide8-requires
-    args-requires-2
-    returns-2
     add-at8-2
     at8-requires-2
-    returns-3
     wide8-requires-2
     add-at8-3
     at8-requires-3
+    args-requires
+    args-requires-2
     args-requires-3
+    returns
+    returns-2
+    returns-3
     returns-4)
