@@ -1,54 +1,52 @@
 -- Where a frame may stand, where a file may end, and whether there is room for more, branch by branch: refusals 5, 6 and 9.
-use mathlib.Core.Path.{_≡_, refl, sym, subst}
-use mathlib.Core.Bool.{Bool, true, false, _||_}
+use mathlib.Core.Path.{_≡_, refl}
+use mathlib.Core.Bool.{Bool, true, false, _&&_}
+use mathlib.Core.Logic.{_⊎_, inl, inr}
 use Prim.Native.Nat.{ℕ, zero, suc, _+_, _-_, _≤_, _<_}
 use native.Mathlib.Omega.{arith}
 use borrow.Author.Tests.{lt-ltb, le-ltb, ne-eqb, le-leb, lt-leb, leb-true, leb-false}
 use lib.Dec.{ltb, leb, eqb}
+use Rattle.scope.specs.Limits.{maxConstructors, maxInType}
 use Rattle.order.specs.declared.State.{State}
 use Rattle.order.specs.Phases.{standsIn, closesIn, roomIn}
 
-or-none : (b : Bool) → b ≡ (b || false)
-or-none true = refl
-or-none false = refl
-
--- a type and the subject stand in both early phases
-early : (p : ℕ) → p ≤ 1 → (true ≡ standsIn p 1) × (true ≡ standsIn p 3)
+-- 5: a type and the subject, in both early phases
+pub early-stands : (p k : ℕ) → (k ≡ 1) ⊎ (k ≡ 3) → ltb p 2 ≡ standsIn p k
 unfolding standsIn
-early zero l = (refl, refl)
-early (suc zero) l = (refl, refl)
-early (suc (suc p)) l = absurd (omega arith)
+early-stands zero k (inl e) = rw e
+early-stands zero k (inr e) = rw e
+early-stands (suc zero) k (inl e) = rw e
+early-stands (suc zero) k (inr e) = rw e
+early-stands (suc (suc zero)) k (inl e) = rw e
+early-stands (suc (suc zero)) k (inr e) = rw e
+early-stands (suc (suc (suc p))) k e = le-ltb (suc (suc (suc p))) 2 (omega arith)
 
--- 5
-module _ (p k : ℕ) where
-  pub clause-stands : p ≡ 2 → k ≡ 4 → true ≡ standsIn p k
-  unfolding standsIn
-  clause-stands a b = rw (a, b)
-
-  pub end-stands : p ≡ 2 → (k ≡ 4 → ⊥) → eqb k 5 ≡ standsIn p k
-  unfolding standsIn
-  end-stands a b = rw (a, ne-eqb k 4 b) (or-none (eqb k 5))
-
-  pub type-stands : p ≤ 1 → k ≡ 1 → true ≡ standsIn p k
-  type-stands a b = subst (λ i. true ≡ standsIn p i) (sym b) (early p a .0)
-
-  pub subject-stands : p ≤ 1 → k ≡ 3 → true ≡ standsIn p k
-  subject-stands a b = subst (λ i. true ≡ standsIn p i) (sym b) (early p a .1)
-
-  pub no-constructor : p ≡ 0 → (k ≡ 1 → ⊥) → (k ≡ 3 → ⊥) → false ≡ standsIn p k
-  unfolding standsIn
-  no-constructor a b c = rw (a, ne-eqb k 1 b, ne-eqb k 3 c)
-
-  pub constructor-stands : p ≤ 1 → (p ≡ 0 → ⊥) → (k ≡ 1 → ⊥) → (k ≡ 3 → ⊥) → eqb k 2 ≡ standsIn p k
-  unfolding standsIn
-  constructor-stands l a b c = let e : p ≡ 1 = omega arith in rw (e, ne-eqb k 1 b, ne-eqb k 3 c) (or-none (eqb k 2))
-
-pub none-stands : (p k : ℕ) → (p ≡ 2 → ⊥) → 1 < p → false ≡ standsIn p k
+-- a constructor
+pub constructor-stands : (p k : ℕ) → k ≡ 2 → eqb p 1 ≡ standsIn p k
 unfolding standsIn
-none-stands zero k a l = absurd (omega arith)
-none-stands (suc zero) k a l = absurd (omega arith)
-none-stands (suc (suc zero)) k a l = absurd (a refl)
-none-stands (suc (suc (suc p))) k a l = refl
+constructor-stands zero k e = rw e
+constructor-stands (suc zero) k e = rw e
+constructor-stands (suc (suc zero)) k e = rw e
+constructor-stands (suc (suc (suc p))) k e = ne-eqb (suc (suc (suc p))) 1 (λ h. absurd (omega arith))
+
+-- a clause and the end, after the subject
+pub late-stands : (p k : ℕ) → (k ≡ 4) ⊎ (k ≡ 5) → eqb p 2 ≡ standsIn p k
+unfolding standsIn
+late-stands zero k (inl e) = rw e
+late-stands zero k (inr e) = rw e
+late-stands (suc zero) k (inl e) = rw e
+late-stands (suc zero) k (inr e) = rw e
+late-stands (suc (suc zero)) k (inl e) = rw e
+late-stands (suc (suc zero)) k (inr e) = rw e
+late-stands (suc (suc (suc p))) k e = ne-eqb (suc (suc (suc p))) 2 (λ h. absurd (omega arith))
+
+-- any other kind
+pub none-stands : (p k : ℕ) → (k ≡ 1 → ⊥) → (k ≡ 2 → ⊥) → (k ≡ 3 → ⊥) → (k ≡ 4 → ⊥) → (k ≡ 5 → ⊥) → false ≡ standsIn p k
+unfolding standsIn
+none-stands zero k a b c d e = rw (ne-eqb k 1 a, ne-eqb k 3 c)
+none-stands (suc zero) k a b c d e = rw (ne-eqb k 1 a, ne-eqb k 2 b, ne-eqb k 3 c)
+none-stands (suc (suc zero)) k a b c d e = rw (ne-eqb k 4 d, ne-eqb k 5 e)
+none-stands (suc (suc (suc p))) k a b c d e = refl
 
 pub closes-late : (p : ℕ) → ltb 2 p ≡ closesIn p
 unfolding closesIn
@@ -67,22 +65,25 @@ module _ (s : State) (last : ℕ) where
   unfolding roomIn
   clause-room k e = rw e
 
-  pub other-room : (k : ℕ) → (k ≡ 1 → ⊥) → (k ≡ 4 → ⊥) → (k ≡ 2 → ⊥) → true ≡ roomIn s last k
+  pub ctor-room : (k : ℕ) (r : Bool) → k ≡ 2 → r ≡ (ltb (s .ctors) maxConstructors && ltb last maxInType) → r ≡ roomIn s last k
+  unfolding roomIn
+  ctor-room k r e h = rw e h
+
+  pub other-room : (k : ℕ) → (k ≡ 1 → ⊥) → (k ≡ 2 → ⊥) → (k ≡ 4 → ⊥) → true ≡ roomIn s last k
   unfolding roomIn
   other-room zero a b c = refl
   other-room (suc zero) a b c = absurd (a refl)
-  other-room (suc (suc zero)) a b c = absurd (c refl)
+  other-room (suc (suc zero)) a b c = absurd (b refl)
   other-room (suc (suc (suc zero))) a b c = refl
-  other-room (suc (suc (suc (suc zero)))) a b c = absurd (b refl)
+  other-room (suc (suc (suc (suc zero)))) a b c = absurd (c refl)
   other-room (suc (suc (suc (suc (suc k))))) a b c = refl
 
-  pub no-ctor-room : (k : ℕ) → k ≡ 2 → 256 ≤ s .ctors → false ≡ roomIn s last k
-  unfolding roomIn
-  no-ctor-room k e l = rw (e, le-ltb (s .ctors) 256 l)
+-- of constructors, those of the file and those of the last type
+pub no-ctor : (ctors last : ℕ) → 256 ≤ ctors → false ≡ (ltb ctors maxConstructors && ltb last maxInType)
+no-ctor ctors last l = rw (le-ltb ctors 256 l)
 
-  pub ctor-room : (k : ℕ) → k ≡ 2 → s .ctors < 256 → ltb last 32 ≡ roomIn s last k
-  unfolding roomIn
-  ctor-room k e l = rw (e, lt-ltb (s .ctors) 256 l)
+pub some-ctor : (ctors last : ℕ) → ctors < 256 → ltb last 32 ≡ (ltb ctors maxConstructors && ltb last maxInType)
+some-ctor ctors last l = rw (lt-ltb ctors 256 l)
 
 -- 9: what is left of the room, or the sum
 pub nodes-fit : (count n : ℕ) → count ≤ 4096 → leb n (4096 - count) ≡ leb (count + n) 4096

@@ -1,8 +1,9 @@
 // Where in the order of frames a file is, and how much it may say: refusals 2, 5, 6 and 9.
 ghost use mathlib.Core.Path.{_≡_};
+ghost use mathlib.Core.Bool.{_&&_};
 ghost use Prim.Native.Nat.{_+_, _≤_};
 ghost use lib.Dec.{ltb, leb};
-ghost use Rattle.scope.specs.Limits.{maxFile, maxNodes};
+ghost use Rattle.scope.specs.Limits.{maxFile, maxConstructors, maxInType, maxNodes};
 ghost use Rattle.order.specs.Phases.{standsIn, closesIn, roomIn, Numbers};
 
 pub struct State {
@@ -43,25 +44,14 @@ pub fn is_long(bytes: usize) -> bool
 pub fn stands(phase: u8, kind: u8) -> bool
     ensures { λ r. ⌜ r ≡ standsIn phase kind ⌝ }
 {
-    if phase == 2 {
-        if kind == 4 {
-            return true;
-        }
-        return kind == 5;
+    match kind {
+        1 => phase < 2,
+        2 => phase == 1,
+        3 => phase < 2,
+        4 => phase == 2,
+        5 => phase == 2,
+        _ => false,
     }
-    if 1 < phase {
-        return false;
-    }
-    if kind == 1 {
-        return true;
-    }
-    if kind == 3 {
-        return true;
-    }
-    if phase == 0 {
-        return false;
-    }
-    kind == 2
 }
 
 // 5: may a file end in this phase.
@@ -71,23 +61,26 @@ pub fn closes(phase: u8) -> bool
     2 < phase
 }
 
+// 6: is there room for one more constructor, of so many, where the last type has `last`.
+fn has_ctor(ctors: usize, last: usize) -> bool
+    ensures { λ r. ⌜ r ≡ (ltb ctors maxConstructors && ltb last maxInType) ⌝ }
+{
+    if 256 <= ctors {
+        return false;
+    }
+    last < 32
+}
+
 // 6: is there room for one more frame of this kind, where the last type has `last` constructors.
 pub fn has_room(s: State, last: usize, kind: u8) -> bool
     ensures { λ r. ⌜ r ≡ roomIn s last kind ⌝ }
 {
-    if kind == 1 {
-        return s.types < 64;
+    match kind {
+        1 => s.types < 64,
+        2 => has_ctor(s.ctors, last),
+        4 => s.clauses < 64,
+        _ => true,
     }
-    if kind == 4 {
-        return s.clauses < 64;
-    }
-    if kind != 2 {
-        return true;
-    }
-    if 256 <= s.ctors {
-        return false;
-    }
-    last < 32
 }
 
 // 9: is there room for n more nodes, where the clauses so far have `count`.

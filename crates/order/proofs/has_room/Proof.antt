@@ -1,27 +1,32 @@
 -- `order::has_room` meets its contract: the kind of frame decides which limit is asked.
-use Rattle.order.proofs.Standing.{type-room, clause-room, other-room, no-ctor-room, ctor-room}
+use Rattle.order.proofs.Standing.{type-room, clause-room, ctor-room, other-room}
 use Rattle.order.proofs.has_room.Statement.{statement}
 use Rattle.order.proofs.has_room.Tie as tie
 
+has-ctor-requires : tie.Need-has-ctor-requires
+has-ctor-requires c κs =
+    tt
+
 returns : tie.Need-returns
 returns c =
-    type-room (c .before .before .args .s) (c .before .before .args .last) (c .before .before .args .kind) (c .before .if1 .taken)
+    let a = c .before .before .args in
+    type-room (a .s) (a .last) (a .kind) (c .before .match .keys1)
 
 returns-2 : tie.Need-returns-2
 returns-2 c =
-    clause-room (c .before .before .before .args .s) (c .before .before .before .args .last) (c .before .before .before .args .kind) (c .before .if2 .taken)
+    let a = c .before .before .args in
+    ctor-room (a .s) (a .last) (a .kind) (c .has-ctor .result) (c .before .match .keys2) (c .has-ctor .ensures)
 
 returns-3 : tie.Need-returns-3
 returns-3 c =
-    other-room (c .before .before .before .args .s) (c .before .before .before .args .last) (c .before .before .before .args .kind) (c .before .before .if1 .left) (c .before .if2 .left) (c .if3 .taken)
+    let a = c .before .before .args in
+    clause-room (a .s) (a .last) (a .kind) (c .before .match .keys3)
 
 returns-4 : tie.Need-returns-4
 returns-4 c =
-    no-ctor-room (c .before .before .before .before .before .args .s) (c .before .before .before .before .before .args .last) (c .before .before .before .before .before .args .kind) (c .before .before .if3 .left) (c .if4 .taken)
-
-returns-5 : tie.Need-returns-5
-returns-5 c =
-    ctor-room (c .before .before .before .before .before .args .s) (c .before .before .before .before .before .args .last) (c .before .before .before .before .before .args .kind) (c .before .before .if3 .left) (c .if4 .left)
+    let a = c .before .args in
+    let m = c .match .rest in
+    other-room (a .s) (a .last) (a .kind) (m .0 .0 .1) (m .0 .1) (m .1)
 
 pub has-room-spec : {M : Type 1} → statement M
-has-room-spec = tie.close (tie.spec returns returns-2 returns-3 returns-4 returns-5)
+has-room-spec = tie.close (tie.spec has-ctor-requires returns returns-2 returns-3 returns-4)
