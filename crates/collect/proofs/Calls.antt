@@ -28,11 +28,12 @@ use Rattle.outcomes.specs.declared.Seek.{Seek}
 use Rattle.outcomes.specs.declared.Seek.the-variants.{Done, Over}
 use Rattle.matrix.proofs.Specialised.{heads, few-places, matrix-length}
 use Rattle.matrix.proofs.Behind.{Behind, behind}
+use Rattle.matrix.proofs.Seen.{listed-next}
 use Rattle.matrix.proofs.Fronts.{part as part-from}
 use Rattle.paths.proofs.PathLaws.{under-append, under-none, spelt-none, path-take, path-next}
 use Rattle.collect.proofs.Column.{open-low, open-walk}
 use Rattle.walks.proofs.MissingSteps.{size-wild, size-key, missing-is}
-use Rattle.collect.proofs.Walk.{sought-same, sought-step, sought-enter, sought-cells, sought-calls, sought-none, sought-leaf, sought-over, sought-done, sought-then}
+use Rattle.collect.proofs.Walk.{trail-kept, sought-same, sought-step, sought-enter, sought-cells, sought-calls, sought-none, sought-leaf, sought-over, sought-done, sought-then}
 
 -- a product that is at least each of its factors
 pub at-least : (a n : ℕ) → 0 < a → 0 < n → (a ≤ a * n) × (n ≤ a * n)
@@ -197,8 +198,13 @@ module _ (bytes nodes left counts ars : List ℕ) where
           let i = sought-done s rows e path pe alts alts₂ depth out oe written found calls room v first later in-first w k c q in
           (i .low, h .few w k c q, i .few)
 
-      pub each-path : take depth pe ≡ take depth path
-      each-path = in-first .keptPath
+      pub each-trail : (w k c : ℕ) → v ≡ Done w k c → Trail pe alts₂ depth (room + 1) w k
+      each-trail w k c q =
+          let f = each-fit w k c q in
+          trail-kept path alts depth (room + 1) written found tr pe alts₂ (in-first .keptPath) (in-first .longPath) (in-first .longAlts) w k (f .0) (f .1)
+
+      pub each-listed : Listed (map (headAt nodes left n) (take rows s)) key more → Listed (map (headAt nodes left n) (take rows e)) (key + 1) (more - 1)
+      each-listed l = subst (λ (x : List ℕ). Listed (map (headAt nodes left n) x) (key + 1) (more - 1)) (sym (h .kept)) (listed-next (map (headAt nodes left n) (take rows s)) key more l)
 
       pub each-then : (w k c : ℕ) → v ≡ Done w k c → (e₂ pe₂ ae₂ oe₂ : List ℕ) (v₂ : Seek)
           → Sought e rows e₂ pe pe₂ alts₂ ae₂ depth oe oe₂ w k c room v₂ (turned (under ars (pathOf pe alts₂ depth)) (gatherFrom (missingBy bytes counts ars (missingOf bytes counts ars) (n - 1) (matrix nodes left n (take rows e))) (key + 1) (more - 1)))

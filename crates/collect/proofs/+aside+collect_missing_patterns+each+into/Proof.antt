@@ -5,18 +5,17 @@ use Rattle.matrix.proofs.Arities.{arity-byte}
 use native.Mathlib.Omega.{arith}
 use lib.Dec.{lit<, ltb}
 use lib.Seq.{length-take-le}
-use lib.ListN.{length, take, replicate, length-set}
-use mathlib.Core.List.{List, map}
-use mathlib.Core.Path.{refl, sym, subst, _∙_}
+use lib.ListN.{length, take, replicate}
+use mathlib.Core.List.{map}
+use mathlib.Core.Path.{refl, sym, _∙_}
 use borrow.Author.Needs.{needs}
 use borrow.Rule.Slice.PartMut.{same-len-mid}
 use Rattle.matrix.specs.Numbers.{arOf, rowsBy, matrix}
 use Rattle.walks.specs.Walks.{size}
-use Rattle.matrix.specs.Places.{headAt, Listed}
+use Rattle.matrix.specs.Places.{headAt}
 use Rattle.matrix.proofs.Specialised.{steady, few-places}
-use Rattle.matrix.proofs.Seen.{listed-next}
-use Rattle.collect.proofs.Walk.{trail-next, trail-kept, trail-spelling}
-use Rattle.collect.proofs.Calls.{leaf-spread, into-length, into-falls, into-opened, into-sought, aside-held, aside-falls, aside-sought, short-falls, held-kept, each-into-falls, each-falls, each-none, each-over, each-fit, each-path, each-then, is-past, is-leaf, is-zero, seen-held, seen-trail, is-full, open-node, open-falls, is-open}
+use Rattle.collect.proofs.Walk.{trail-next, trail-spelling}
+use Rattle.collect.proofs.Calls.{leaf-spread, into-length, into-falls, into-opened, into-sought, aside-held, aside-falls, aside-sought, short-falls, held-kept, each-into-falls, each-falls, each-none, each-over, each-fit, each-trail, each-listed, each-then, is-past, is-leaf, is-zero, seen-held, seen-trail, is-full, open-node, open-falls, is-open}
 use Prim.Native.Nat.{ℕ, _+_, _*_, _-_, _/_, _≤_, _<_}
 use borrow.Fn.Kinds.{In}
 use borrow.Fn.PlainCycle.{Measures, is, falls, and}
@@ -388,8 +387,8 @@ each-each-requires t c κs =
       (
         held-kept (a .bytes .now) (a .nodes .now) (a .left .now) (a .counts .now) (a .arities .now) (a .n) (a .s .now) (a .rows) (a .room) (h .0) e k (c .before .before .before .before .before .before .before .before .before .into .kept .1 .1 .1 .1 .1 .1 .1 .0),
         (
-          trail-kept (a .path .now) (a .alts .now) (a .depth) (a .room + 1) (a .written) (a .found) (h .1 .0) (c .before .before .before .before .before .before .before .before .before .into .last .1 .1 .1 .1 .1 .1 .1 .1 .1 .0) (c .before .before .before .before .before .before .before .before .before .into .last .1 .1 .1 .1 .1 .1 .1 .1 .1 .1 .0) (each-path (a .bytes .now) (a .nodes .now) (a .left .now) (a .counts .now) (a .arities .now) low (a .n) (a .key) (a .more) (a .s .now) (a .rows) (a .room) (h .0) (a .path .now) (a .alts .now) (a .depth) (a .written) (a .found) (h .1 .0) p (a .out .now) (a .calls) (c .before .before .before .before .before .before .before .before .before .into .last .1 .1 .1 .1 .1 .1 .1 .0) (c .before .before .before .before .before .before .before .before .before .into .last .1 .1 .1 .1 .1 .1 .1 .1 .1 .0) (c .before .before .before .before .before .before .before .before .before .into .last .1 .1 .1 .1 .1 .1 .1 .1 .1 .1 .0) (c .before .before .before .before .before .before .before .before .before .into .last .1 .1 .1 .1 .1 .1 .1 .1 .1 .1 .1 .1 .0) (c .before .before .before .before .before .before .before .before .before .into .result) (c .before .before .before .before .before .before .before .before .before .into .ensures)) (c .before .before .before .before .before .before .before .before .before .into .ensures .longPath ∙ length-set (a .path .now) (a .depth) (a .key)) (c .before .before .before .before .before .before .before .before .before .into .ensures .longAlts ∙ length-set (a .alts .now) (a .depth) 0) (c .before .before .before .before .before .r .given .0 .0) (c .before .before .before .before .before .r .given .0 .1 .0) (f .0) (f .1),
-          (subst (λ (x : List ℕ). Listed (map (headAt (a .nodes .now) (a .left .now) (a .n)) x) (a .key + 1) (a .more - 1)) (sym k) (listed-next (map (headAt (a .nodes .now) (a .left .now) (a .n)) (take (a .rows) (a .s .now))) (a .key) (a .more) (h .1 .1 .0)), (f .2, omega (arith, h .1 .1 .1 .1), omega (arith, h .1 .1 .1 .2), omega (arith, h .1 .1 .1 .3))),
+          each-trail (a .bytes .now) (a .nodes .now) (a .left .now) (a .counts .now) (a .arities .now) low (a .n) (a .key) (a .more) (a .s .now) (a .rows) (a .room) (h .0) (a .path .now) (a .alts .now) (a .depth) (a .written) (a .found) (h .1 .0) p (a .out .now) (a .calls) (c .before .before .before .before .before .before .before .before .before .into .last .1 .1 .1 .1 .1 .1 .1 .0) (c .before .before .before .before .before .before .before .before .before .into .last .1 .1 .1 .1 .1 .1 .1 .1 .1 .0) (c .before .before .before .before .before .before .before .before .before .into .last .1 .1 .1 .1 .1 .1 .1 .1 .1 .1 .0) (c .before .before .before .before .before .before .before .before .before .into .last .1 .1 .1 .1 .1 .1 .1 .1 .1 .1 .1 .1 .0) (c .before .before .before .before .before .before .before .before .before .into .result) (c .before .before .before .before .before .before .before .before .before .into .ensures) (c .before .before .before .before .before .r .given .0 .0) (c .before .before .before .before .before .r .given .0 .1 .0) (c .before .before .before .before .before .r .given .0 .1 .1 .0) (c .before .before .before .before .before .r .given .1),
+          (each-listed (a .bytes .now) (a .nodes .now) (a .left .now) (a .counts .now) (a .arities .now) low (a .n) (a .key) (a .more) (a .s .now) (a .rows) (a .room) (h .0) (a .path .now) (a .alts .now) (a .depth) (a .written) (a .found) (h .1 .0) p (a .out .now) (a .calls) (c .before .before .before .before .before .before .before .before .before .into .last .1 .1 .1 .1 .1 .1 .1 .0) (c .before .before .before .before .before .before .before .before .before .into .last .1 .1 .1 .1 .1 .1 .1 .1 .1 .0) (c .before .before .before .before .before .before .before .before .before .into .last .1 .1 .1 .1 .1 .1 .1 .1 .1 .1 .0) (c .before .before .before .before .before .before .before .before .before .into .last .1 .1 .1 .1 .1 .1 .1 .1 .1 .1 .1 .1 .0) (c .before .before .before .before .before .before .before .before .before .into .result) (c .before .before .before .before .before .before .before .before .before .into .ensures) (h .1 .1 .0), (f .2, omega (arith, h .1 .1 .1 .1), omega (arith, h .1 .1 .1 .2), omega (arith, h .1 .1 .1 .3))),
         ),
       ),
     )
