@@ -2,13 +2,13 @@
 use mathlib.Core.Path.{_≡_, refl, sym, ap, _∙_}
 use mathlib.Core.Bool.{false}
 use mathlib.Core.List.{List, [], _∷_, map}
-use Prim.Native.Nat.{ℕ, zero, suc, _+_, _*_}
+use Prim.Native.Nat.{ℕ, zero, suc, _+_}
 use native.Mathlib.Numerals.{add-one}
 use lib.ListN.{length, getD, set, replicate}
 use lib.Seq.{sets}
 use borrow.Author.Tests.{ne-eqb}
 use Rattle.layout.specs.Places.{places, labelled, reads}
-use Rattle.table.specs.Build.{low, builtArities, typeArities, typeFields, flagAt, arityIn, isBare, fieldPlaces, labelsWith, WithCtor}
+use Rattle.table.specs.Build.{low, builtArities, typeArities, typeFields, flagAt, arityIn, isBare, fieldPlaces, labelsWith}
 use Rattle.layout.proofs.Loops.{length-places, length-map}
 
 -- two stores, one after another
@@ -125,26 +125,3 @@ module _ (bytes fields fields′ labels : List ℕ) (at flag n m f from : ℕ) (
   -- and with labels
   pub labelled-parts : (labels′ : List ℕ) → (f ≡ 0 → ⊥) → fields′ ≡ sets fields from (reads bytes (labelled bytes (flag + 2) m)) → labels′ ≡ sets labels from (map (λ p. low (p + 1)) (labelled bytes (flag + 2) m)) → (n ≡ arityIn bytes at) × ((fields′ ≡ sets fields from (reads bytes (fieldPlaces bytes (flagAt bytes at) (arityIn bytes at)))) × (labels′ ≡ labelsWith bytes (flagAt bytes at) (arityIn bytes at) from labels))
   labelled-parts labels′ z s l = (arity-is, (s ∙ ap (λ ps. sets fields from (reads bytes ps)) (labelled-places bytes flag m f ef z ∙ places-are), l ∙ labels-stored bytes flag m f ef from labels z ∙ labels-are))
-
--- the stores of a constructor frame, as constructor number i with a fields
-pub ctor-stored :
-    (bytes counts arities starts names fields labels counts′ arities′ starts′ names′ fields′ labels′ : List ℕ)
-    (at t used i a : ℕ)
-    → i ≡ 32 * t + getD counts t 0
-    → a ≡ arityIn bytes at
-    → counts′ ≡ set counts t (getD counts t 0 + 1)
-    → arities′ ≡ set arities i a
-    → starts′ ≡ set starts i (low used)
-    → names′ ≡ set names i (low at)
-    → fields′ ≡ sets fields used (reads bytes (fieldPlaces bytes (flagAt bytes at) (arityIn bytes at)))
-    → labels′ ≡ labelsWith bytes (flagAt bytes at) (arityIn bytes at) used labels
-    → WithCtor bytes at t used counts arities starts names fields labels counts′ arities′ starts′ names′ fields′ labels′
-ctor-stored bytes counts arities starts names fields labels counts′ arities′ starts′ names′ fields′ labels′ at t used i a ei ea sc sa ss sn sf sl =
-    record {
-      countsAre = sc;
-      aritiesAre = sa ∙ ap (λ j. set arities j a) ei ∙ ap (set arities (32 * t + getD counts t 0)) ea;
-      startsAre = ss ∙ ap (λ j. set starts j (low used)) ei;
-      namesAre = sn ∙ ap (λ j. set names j (low at)) ei;
-      fieldsAre = sf;
-      labelsAre = sl;
-    }
