@@ -37,9 +37,9 @@ fn put_fields(bytes: &[u8], at: usize, n: usize, fields: &mut [u8], from: usize)
 }
 
 // The arities of the constructors that a type has before any is declared, from number i on; how many they are.
-fn put_arities(bytes: &[u8], at: usize, arities: &mut [u8], i: usize) -> u8
+fn put_arities(bytes: &[u8], at: usize, arities: &mut [u8; 2048], i: usize) -> u8
     requires { ⌜ at < 2 ^ 32 ⌝ }
-    requires { ⌜ i < 2 ^ 32 ⌝ }
+    requires { ⌜ i < 2048 ⌝ }
     ensures { λ r. ⌜ r ≡ length (typeArities (now (bytes .entry)) at) ⌝ }
     ensures { λ _. ⌜ now (arities .exit) ≡ sets (now (arities .entry)) i (typeArities (now (bytes .entry)) at) ⌝ }
 {
@@ -50,18 +50,18 @@ fn put_arities(bytes: &[u8], at: usize, arities: &mut [u8], i: usize) -> u8
         return 2;
     }
     if kind == 4 {
-        put8(arities, i, at8(bytes, at + 1));
+        arities[i] = at8(bytes, at + 1);
         return 1;
     }
     if kind == 5 {
-        put8(arities, i, 2);
+        arities[i] = 2;
         return 1;
     }
     0
 }
 
 // The fields of those constructors, of the type t, written from `from` on; the place after them.
-fn put_types(bytes: &[u8], at: usize, t: usize, fields: &mut [u8], from: usize) -> usize
+fn put_types(bytes: &[u8], at: usize, t: usize, fields: &mut [u8; 5120], from: usize) -> usize
     requires { ⌜ at < 2 ^ 32 ⌝ }
     requires { ⌜ t < 64 ⌝ }
     requires { ⌜ from < 2 ^ 32 ⌝ }
@@ -83,7 +83,7 @@ fn put_types(bytes: &[u8], at: usize, t: usize, fields: &mut [u8], from: usize) 
 }
 
 // n constructors, from number i on, whose fields all begin at `from`.
-fn put_starts(starts: &mut [u16], i: usize, n: usize, from: usize)
+fn put_starts(starts: &mut [u16; 2048], i: usize, n: usize, from: usize)
     requires { ⌜ i + n < 2 ^ 63 ⌝ }
     ensures { λ _. ⌜ now (starts .exit) ≡ sets (now (starts .entry)) i (replicate n (low from)) ⌝ }
 {
@@ -154,8 +154,8 @@ fn put_labelled(
     bytes: &[u8],
     at: usize,
     n: usize,
-    fields: &mut [u8],
-    labels: &mut [u16],
+    fields: &mut [u8; 5120],
+    labels: &mut [u16; 5120],
     from: usize,
 )
     requires { ⌜ at < 2 ^ 33 ⌝ }
@@ -176,7 +176,13 @@ fn put_labelled(
 }
 
 // A constructor's fields, from its name's length on, written from `from` on; how many they are.
-fn put_parts(bytes: &[u8], at: usize, fields: &mut [u8], labels: &mut [u16], from: usize) -> u8
+fn put_parts(
+    bytes: &[u8],
+    at: usize,
+    fields: &mut [u8; 5120],
+    labels: &mut [u16; 5120],
+    from: usize,
+) -> u8
     requires { ⌜ at < 2 ^ 32 ⌝ }
     requires { ⌜ from < 2 ^ 32 ⌝ }
     ensures { λ r. ⌜ r ≡ arityIn (now (bytes .entry)) at ⌝ }

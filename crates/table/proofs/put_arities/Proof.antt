@@ -15,54 +15,42 @@ at8-requires c κs =
 
 put-fields-requires : tie.Need-put-fields-requires
 put-fields-requires c κs =
-    omega (arith, c .before .before .before .before .before .before .pre)
-
-same-length : tie.Need-same-length
-same-length c =
-    c .before .before .put-fields .kept .1 .1 .1 .0
+    omega (arith, c .before .before .before .before .before .pre)
 
 returns : tie.Need-returns
 returns c =
-    let a = c .before .before .before .before .before .before .before .before .before .args in
-    stored _ _ (a .i) builtArities _ (list-arities (a .bytes .now) (a .at) (c .before .before .before .before .before .before .at8 .result) (c .before .before .before .before .before .before .at8 .ensures) (c .before .before .before .before .before .if1 .taken)) (c .before .before .put-fields .ensures .1 ∙ ap (sets (a .arities .now) (a .i)) built)
+    let a = c .before .before .before .before .before .before .args in
+    stored _ _ (a .i) builtArities _ (list-arities (a .bytes .now) (a .at) (c .before .before .before .before .at8 .result) (c .before .before .before .before .at8 .ensures) (c .before .before .before .if1 .taken)) (c .put-fields .ensures .1 ∙ ap (sets (a .arities .now) (a .i)) built)
 
 add-at8 : tie.Need-add-at8
 add-at8 c =
-    omega (arith, c .before .before .before .before .before .before .pre)
+    omega (arith, c .before .before .before .before .pre)
 
 at8-requires-2 : tie.Need-at8-requires-2
 at8-requires-2 c κs =
     tt
 
-put8-requires : tie.Need-put8-requires
-put8-requires c κs =
-    omega (arith, c .before .before .before .before .before .before .before .pre)
-
-same-length-2 : tie.Need-same-length-2
-same-length-2 c =
-    c .before .before .put8 .kept .0
+element-write-arities : tie.Need-element-write-arities
+element-write-arities c =
+    omega (arith, c .before .before .before .before .before .pre)
 
 returns-2 : tie.Need-returns-2
 returns-2 c =
-    let a = c .before .before .before .before .before .before .before .before .before .before .args in
-    stored _ _ (a .i) (c .before .before .before .at82 .result ∷ []) _ (tuple-arities (a .bytes .now) (a .at) (c .before .before .before .before .before .before .before .at8 .result) (c .before .before .before .before .before .before .before .at8 .ensures) (c .before .before .before .at82 .result) (c .before .before .before .at82 .ensures) (c .before .before .before .before .before .if2 .taken)) (c .before .before .put8 .ensures .1)
+    let a = c .before .before .before .before .before .args in
+    stored _ _ (a .i) (c .at82 .result ∷ []) _ (tuple-arities (a .bytes .now) (a .at) (c .before .before .before .at8 .result) (c .before .before .before .at8 .ensures) (c .at82 .result) (c .at82 .ensures) (c .before .if2 .taken)) refl
 
-put8-requires-2 : tie.Need-put8-requires-2
-put8-requires-2 c κs =
-    omega (arith, c .before .before .before .before .before .before .before .pre)
-
-same-length-3 : tie.Need-same-length-3
-same-length-3 c =
-    c .before .before .put82 .kept .0
+element-write-arities-2 : tie.Need-element-write-arities-2
+element-write-arities-2 c =
+    omega (arith, c .before .before .before .before .before .pre)
 
 returns-3 : tie.Need-returns-3
 returns-3 c =
-    let a = c .before .before .before .before .before .before .before .before .before .before .args in
-    stored _ _ (a .i) (2 ∷ []) _ (pair-arities (a .bytes .now) (a .at) (c .before .before .before .before .before .before .before .at8 .result) (c .before .before .before .before .before .before .before .at8 .ensures) (c .before .before .before .before .if3 .taken)) (c .before .before .put82 .ensures .1)
+    let a = c .before .before .before .before .before .args in
+    stored _ _ (a .i) (2 ∷ []) _ (pair-arities (a .bytes .now) (a .at) (c .before .before .before .at8 .result) (c .before .before .before .at8 .ensures) (c .if3 .taken)) refl
 
 returns-4 : tie.Need-returns-4
 returns-4 c =
-    let a = c .before .before .before .before .before .before .args in
+    let a = c .before .before .before .before .before .args in
     stored (a .arities .now) (a .arities .now) (a .i) [] _ (no-arities (a .bytes .now) (a .at) (c .before .before .before .at8 .result) (c .before .before .before .at8 .ensures) (c .before .before .if1 .left) (c .before .if2 .left) (c .if3 .left)) refl
 
 pub put-arities-spec : {M : Type 1} → statement M
@@ -72,14 +60,11 @@ put-arities-spec =
     at8-requires
     (λ c. search needs)
     put-fields-requires
-    same-length
     returns
     add-at8
     at8-requires-2
-    put8-requires
-    same-length-2
+    element-write-arities
     returns-2
-    put8-requires-2
-    same-length-3
+    element-write-arities-2
     returns-3
     returns-4)

@@ -6,11 +6,11 @@ use Rattle.table.proofs.put_parts.Tie as tie
 
 after-name-requires : tie.Need-after-name-requires
 after-name-requires c κs =
-    omega (arith, c .before .before .before .pre)
+    omega (arith, c .before .pre)
 
 add-at8 : tie.Need-add-at8
 add-at8 c =
-    omega (arith, c .before .before .before .before .pre, c .after-name .ensures .1)
+    omega (arith, c .before .before .pre, c .after-name .ensures .1)
 
 at8-requires : tie.Need-at8-requires
 at8-requires c κs =
@@ -26,41 +26,29 @@ at8-requires-2 c κs =
 
 add-put-fields : tie.Need-add-put-fields
 add-put-fields c =
-    omega (arith, c .before .before .before .before .before .before .before .before .pre, c .before .before .before .before .after-name .ensures .1)
+    omega (arith, c .before .before .before .before .before .before .pre, c .before .before .before .before .after-name .ensures .1)
 
 put-fields-requires : tie.Need-put-fields-requires
 put-fields-requires c κs =
-    omega (arith, c .before .before .before .before .before .before .before .before .before .pre, c .before .before .before .before .before .after-name .ensures .1, c .before .before .before .wide8 .ensures, c .before .before .before .before .at8 .ok)
-
-same-length : tie.Need-same-length
-same-length c =
-    c .before .before .put-fields .kept .1 .1 .1 .0
+    omega (arith, c .before .before .before .before .before .before .before .pre, c .before .before .before .before .before .after-name .ensures .1, c .before .before .before .wide8 .ensures, c .before .before .before .before .at8 .ok)
 
 returns : tie.Need-returns
 returns c =
-    let a = c .before .before .before .before .before .before .before .before .before .before .before .before .args in
-    bare-parts (a .bytes .now) (a .fields .now) (c .before .before .put-fields .last .1 .1 .1 .0) (a .labels .now) (a .at) (c .before .before .before .before .before .before .before .before .after-name .result) (c .before .before .before .before .before .before .before .at8 .result) (c .before .before .before .before .before .before .wide8 .result) (c .before .before .before .before .before .at82 .result) (a .from) (c .before .before .before .before .before .before .before .before .after-name .ensures .0) (c .before .before .before .before .before .at82 .ensures) (c .before .before .before .before .before .before .before .at8 .ensures) (c .before .before .before .before .before .before .wide8 .ensures) (c .before .before .before .before .if1 .taken) (c .before .before .put-fields .ensures .1)
+    let a = c .before .before .before .before .before .before .before .before .args in
+    bare-parts (a .bytes .now) (a .fields .now) (c .put-fields .last .1 .1 .1 .0) (a .labels .now) (a .at) (c .before .before .before .before .before .before .after-name .result) (c .before .before .before .before .before .at8 .result) (c .before .before .before .before .wide8 .result) (c .before .before .before .at82 .result) (a .from) (c .before .before .before .before .before .before .after-name .ensures .0) (c .before .before .before .at82 .ensures) (c .before .before .before .before .before .at8 .ensures) (c .before .before .before .before .wide8 .ensures) (c .before .before .if1 .taken) (c .put-fields .ensures .1)
 
 add-put-labelled : tie.Need-add-put-labelled
 add-put-labelled c =
-    omega (arith, c .before .before .before .before .before .before .before .before .pre, c .before .before .before .before .after-name .ensures .1)
+    omega (arith, c .before .before .before .before .before .before .pre, c .before .before .before .before .after-name .ensures .1)
 
 put-labelled-requires : tie.Need-put-labelled-requires
 put-labelled-requires c κs =
-    omega (arith, c .before .before .before .before .before .before .before .before .before .before .pre, c .before .before .before .before .before .before .after-name .ensures .1, c .before .before .before .before .wide8 .ensures, c .before .before .before .before .before .at8 .ok)
-
-same-length-2 : tie.Need-same-length-2
-same-length-2 c =
-    c .before .before .before .before .put-labelled .kept .1 .1 .1 .0
-
-same-length-3 : tie.Need-same-length-3
-same-length-3 c =
-    c .before .before .before .before .put-labelled .kept .1 .1 .1 .1 .0
+    omega (arith, c .before .before .before .before .before .before .before .before .pre, c .before .before .before .before .before .before .after-name .ensures .1, c .before .before .before .before .wide8 .ensures, c .before .before .before .before .before .at8 .ok)
 
 returns-2 : tie.Need-returns-2
 returns-2 c =
-    let a = c .before .before .before .before .before .before .before .before .before .before .before .before .before .before .before .args in
-    labelled-parts (a .bytes .now) (a .fields .now) (c .before .before .before .before .put-labelled .last .1 .1 .1 .0) (a .labels .now) (a .at) (c .before .before .before .before .before .before .before .before .before .before .before .after-name .result) (c .before .before .before .before .before .before .before .before .before .before .at8 .result) (c .before .before .before .before .before .before .before .before .before .wide8 .result) (c .before .before .before .before .before .before .before .before .at82 .result) (a .from) (c .before .before .before .before .before .before .before .before .before .before .before .after-name .ensures .0) (c .before .before .before .before .before .before .before .before .at82 .ensures) (c .before .before .before .before .before .before .before .before .before .before .at8 .ensures) (c .before .before .before .before .before .before .before .before .before .wide8 .ensures) (c .before .before .before .before .put-labelled .last .1 .1 .1 .1 .0) (c .before .before .before .before .before .before .before .if1 .left) (c .before .before .before .before .put-labelled .ensures .0) (c .before .before .before .before .put-labelled .ensures .1)
+    let a = c .before .before .before .before .before .before .before .before .before .args in
+    labelled-parts (a .bytes .now) (a .fields .now) (c .put-labelled .last .1 .1 .1 .0) (a .labels .now) (a .at) (c .before .before .before .before .before .before .before .after-name .result) (c .before .before .before .before .before .before .at8 .result) (c .before .before .before .before .before .wide8 .result) (c .before .before .before .before .at82 .result) (a .from) (c .before .before .before .before .before .before .before .after-name .ensures .0) (c .before .before .before .before .at82 .ensures) (c .before .before .before .before .before .before .at8 .ensures) (c .before .before .before .before .before .wide8 .ensures) (c .put-labelled .last .1 .1 .1 .1 .0) (c .before .before .before .if1 .left) (c .put-labelled .ensures .0) (c .put-labelled .ensures .1)
 
 pub put-parts-spec : {M : Type 1} → statement M
 put-parts-spec =
@@ -73,10 +61,7 @@ put-parts-spec =
     at8-requires-2
     add-put-fields
     put-fields-requires
-    same-length
     returns
     add-put-labelled
     put-labelled-requires
-    same-length-2
-    same-length-3
     returns-2)

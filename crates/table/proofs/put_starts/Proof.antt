@@ -1,8 +1,8 @@
 -- `table::put_starts` meets its contract: what is written and what is still to come are the whole run.
-use mathlib.Core.Path.{_≡_, refl, ap, _∙_}
+use mathlib.Core.Path.{_≡_, ap, _∙_}
 use Prim.Native.Nat.{_+_, _-_, _≤_}
 use native.Mathlib.Omega.{arith}
-use lib.ListN.{length, replicate}
+use lib.ListN.{replicate}
 use lib.Seq.{sets}
 use Rattle.table.specs.Build.{low}
 use Rattle.table.proofs.Stores.{fill-on, fill-end}
@@ -10,7 +10,7 @@ use Rattle.table.proofs.put_starts.Statement.{statement}
 use Rattle.table.proofs.put_starts.Tie as tie
 
 abbrev Inv-loop : tie.InvT-loop
-Inv-loop starts₀ i n from end k₀ starts k = (i ≤ k) × (k ≤ end) × (length starts ≡ length starts₀) × (sets starts k (replicate (end - k) (low from)) ≡ sets starts₀ i (replicate n (low from)))
+Inv-loop starts₀ i n from end k₀ starts k = (i ≤ k) × (k ≤ end) × (sets starts k (replicate (end - k) (low from)) ≡ sets starts₀ i (replicate n (low from)))
 
 abbrev μ-loop : tie.MeasureT-loop
 μ-loop starts₀ i n from end k₀ starts k = end - k
@@ -21,9 +21,9 @@ add-end c =
 
 loop-holds : tie.Need-loop-holds Inv-loop μ-loop
 loop-holds c =
-    let a = c .before .args in
+    let a = c .args in
     let e : a .i + a .n - a .i ≡ a .n = omega arith in
-    (omega arith, omega arith, refl, ap (λ m. sets (a .starts .now) (a .i) (replicate m (low (a .from)))) e)
+    (omega arith, omega arith, ap (λ m. sets (a .starts .now) (a .i) (replicate m (low (a .from)))) e)
 
 cast-put16 : tie.Need-cast-put16 Inv-loop μ-loop
 cast-put16 c =
@@ -35,24 +35,20 @@ put16-requires c κs =
 
 loop-less : tie.Need-loop-less Inv-loop μ-loop
 loop-less c =
-    omega (arith, c .before .before .put16 .ensures .0)
+    omega (arith, c .put16 .ensures .0)
 
 loop-again : tie.Need-loop-again Inv-loop μ-loop
 loop-again c =
-    let a = c .before .before .before .before .before .before .before .args in
-    let l = c .before .before .before .before .before .loop in
-    let put16 = c .before .before .put16 in
-    (omega (arith, put16 .ensures .0), omega (arith, put16 .ensures .0), put16 .kept .0 ∙ l .inv .2, fill-on (l .starts) (l .k) (low (a .from)) (put16 .last .0) (put16 .result) (a .i + a .n - l .k) (a .i + a .n - put16 .result) (omega (arith, put16 .ensures .0)) (omega (arith, put16 .ensures .0)) (put16 .ensures .1) ∙ l .inv .3)
-
-same-length : tie.Need-same-length Inv-loop μ-loop
-same-length c =
-    c .before .loop .inv .2
+    let a = c .before .before .before .before .args in
+    let l = c .before .before .before .loop in
+    let put16 = c .put16 in
+    (omega (arith, put16 .ensures .0), omega (arith, put16 .ensures .0), fill-on (l .starts) (l .k) (low (a .from)) (put16 .last .0) (put16 .result) (a .i + a .n - l .k) (a .i + a .n - put16 .result) (omega (arith, put16 .ensures .0)) (omega (arith, put16 .ensures .0)) (put16 .ensures .1) ∙ l .inv .2)
 
 returns : tie.Need-returns Inv-loop μ-loop
 returns c =
-    let a = c .before .before .before .args in
+    let a = c .before .before .args in
     let l = c .before .loop in
-    fill-end (l .starts) (l .k) (low (a .from)) (a .i + a .n - l .k) (omega arith) ∙ l .inv .3
+    fill-end (l .starts) (l .k) (low (a .from)) (a .i + a .n - l .k) (omega arith) ∙ l .inv .2
 
 pub put-starts-spec : {M : Type 1} → statement M
 put-starts-spec =
@@ -66,5 +62,4 @@ put-starts-spec =
     put16-requires
     loop-less
     loop-again
-    same-length
     returns)
