@@ -2,14 +2,15 @@
 use mathlib.Core.Path.{_≡_, refl, sym, ap, ap₂, _∙_}
 use mathlib.Core.List.{[], _∷_}
 use mathlib.Core.Bool.{Bool, true, false, _&&_, _||_}
-use Prim.Native.Nat.{ℕ, suc, _+_, _≤_, _<_}
+use Prim.Native.Nat.{ℕ, suc, _+_, _-_, _≤_, _<_}
 use native.Mathlib.Omega.{arith}
-use lib.ListN.{length, getD, take, drop, drop-of-length-le}
+use lib.ListN.{length, getD, take, drop, drop-of-length-le, length-drop}
 use lib.Dec.{eqb}
 use borrow.Author.Tests.{eq-eqb, ne-eqb}
 use Rattle.scope.specs.Lists.{Text, same}
 use Rattle.scope.specs.Text.{startsWith, contains}
 use Rattle.cells.proofs.Parts.{left}
+use Rattle.scope.proofs.Tests.{clash}
 
 and-false : (z : Bool) → z && false ≡ false
 and-false true = refl
@@ -39,17 +40,23 @@ unfolding same
 same-ends a b i h k = ap₂ same (drop-of-length-le a h) (drop-of-length-le b k)
 
 -- a longer text stands at the start of no shorter one
-pub starts-short : (s t : Text) → length t < length s → startsWith s t ≡ false
+starts-short : (s t : Text) → length t < length s → startsWith s t ≡ false
 starts-short [] t h = absurd (omega arith)
 starts-short (x ∷ s) [] h = refl
 starts-short (x ∷ s) (y ∷ t) h = ap (λ (z : Bool). eqb x y && z) (starts-short s t (omega arith)) ∙ and-false (eqb x y)
 
 -- a text begins with s if so many bytes of it are s
-pub starts-same : (s t : Text) → length s ≤ length t → same s (take (length s) t) ≡ startsWith s t
+starts-same : (s t : Text) → length s ≤ length t → same s (take (length s) t) ≡ startsWith s t
 unfolding same
 starts-same [] t h = refl
 starts-same (x ∷ s) [] h = absurd (omega arith)
 starts-same (x ∷ s) (y ∷ t) h = ap (λ (z : Bool). eqb x y && z) (starts-same s t (omega arith))
+
+-- so many bytes from a place on
+pub starts-at : (s t : Text) (i : ℕ) → i ≤ length t → length s ≤ length t - i → same s (take (i + length s - i) (drop i t)) ≡ startsWith s (drop i t)
+starts-at s t i l h =
+    let n : i + length s - i ≡ length s = omega arith in
+    ap (λ (k : ℕ). same s (take k (drop i t))) n ∙ starts-same s (drop i t) (omega (arith, length-drop i t))
 
 -- s stands here, so it stands somewhere from here on
 pub contains-stops : (s t : Text) → startsWith s t ≡ true → contains s t ≡ true
@@ -64,7 +71,13 @@ contains-goes s t i h e =
     let f : startsWith s (getD t i 0 ∷ drop (i + 1) t) ≡ false = rw (left t i h) at e in
     ap (contains s) (left t i h) ∙ ap (λ (z : Bool). z || contains s (drop (i + 1) t)) f
 
--- at the end only what stands in nothing is left
-pub contains-ends : (s t : Text) (i : ℕ) → length t ≤ i → startsWith s (drop i t) ≡ contains s (drop i t)
+-- a longer text stands nowhere in a shorter one
+pub contains-short : (s t : Text) → length t < length s → contains s t ≡ false
 unfolding contains
-contains-ends s t i h = ap (startsWith s) (drop-of-length-le t h) ∙ sym (ap (contains s) (drop-of-length-le t h))
+contains-short s [] h = starts-short s [] h
+contains-short s (b ∷ t) h = ap₂ _||_ (starts-short s (b ∷ t) h) (contains-short s t (omega arith))
+
+-- nothing stands everywhere
+pub starts-some : (s t : Text) → startsWith s t ≡ false → 0 < length s
+starts-some [] t e = clash (cc)
+starts-some (x ∷ s) t e = omega arith

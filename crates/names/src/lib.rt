@@ -3,7 +3,7 @@ ghost use mathlib.Core.Path.{_≡_};
 ghost use mathlib.Core.List.{_++_};
 ghost use Rattle.scope.specs.Lists.{same};
 ghost use Rattle.scope.specs.Types.{consName, nilName, tupleName};
-ghost use Rattle.scope.specs.Text.{startsWith, contains};
+ghost use Rattle.scope.specs.Text.{contains};
 
 // "::", "[]" and "__Tuple", one after another.
 const FIXED: [u8; 11] = *b"::[]__Tuple";
@@ -31,26 +31,16 @@ pub fn same(a: &[u8], b: &[u8]) -> bool
     true
 }
 
-// Whether t begins with s.
-fn starts_with(s: &[u8], t: &[u8]) -> bool
-    ensures { λ r. ⌜ r ≡ startsWith (now (s .entry)) (now (t .entry)) ⌝ }
-{
-    if t.len() < s.len() {
-        return false;
-    }
-    same(s, &t[..s.len()])
-}
-
 // Whether s stands anywhere in t.
 pub fn contains(s: &[u8], t: &[u8]) -> bool
     ensures { λ r. ⌜ r ≡ contains (now (s .entry)) (now (t .entry)) ⌝ }
 {
     let mut i = 0;
-    while i < t.len() {
-        if starts_with(s, &t[i..]) {
+    while s.len() <= t.len() - i {
+        if same(s, &t[i..i + s.len()]) {
             return true;
         }
         i += 1;
     }
-    starts_with(s, &t[i..])
+    false
 }

@@ -1,11 +1,10 @@
 -- `names::contains` meets its contract: s stands somewhere from i on just where it stands anywhere.
-use Prim.Native.Nat.{_≤_, _-_}
-use mathlib.Core.Path.{_≡_, refl, sym, ap, _∙_}
-use lib.ListN.{length, drop}
+use Prim.Native.Nat.{_≤_, _<_, _-_}
+use mathlib.Core.Path.{_≡_, refl, sym, _∙_}
+use mathlib.Core.Bool.{false}
+use lib.ListN.{length, drop, length-drop}
 use Rattle.scope.specs.Text.{startsWith, contains}
-use Rattle.cells.proofs.Parts.{part}
-use Rattle.names.proofs.Laws.{contains-stops, contains-goes, contains-ends}
-use borrow.Author.Needs.{needs}
+use Rattle.names.proofs.Laws.{starts-at, starts-some, contains-stops, contains-goes, contains-short}
 use native.Mathlib.Omega.{arith}
 use Rattle.names.proofs.contains.Statement.{statement}
 use Rattle.names.proofs.contains.Tie as tie
@@ -20,47 +19,60 @@ loop-holds : tie.Need-loop-holds Inv-loop μ-loop
 loop-holds c =
     (omega arith, refl)
 
-sub-starts-with : tie.Need-sub-starts-with Inv-loop μ-loop
-sub-starts-with c = search needs
+sub-loop : tie.Need-sub-loop Inv-loop μ-loop
+sub-loop c =
+    c .loop .inv .0
 
-part-starts-with-start : tie.Need-part-starts-with-start Inv-loop μ-loop
-part-starts-with-start c = search needs
+add-same : tie.Need-add-same Inv-loop μ-loop
+add-same c =
+    omega (arith, c .before .loop .inv .0, c .loop-test .taken)
 
-part-starts-with-end : tie.Need-part-starts-with-end Inv-loop μ-loop
-part-starts-with-end c = search needs
+sub-same : tie.Need-sub-same Inv-loop μ-loop
+sub-same c =
+    omega arith
 
-starts-with-requires : tie.Need-starts-with-requires Inv-loop μ-loop
-starts-with-requires c κs = search needs
+part-same-start : tie.Need-part-same-start Inv-loop μ-loop
+part-same-start c =
+    omega arith
+
+part-same-end : tie.Need-part-same-end Inv-loop μ-loop
+part-same-end c =
+    omega (arith, c .before .loop .inv .0, c .loop-test .taken)
+
+same-requires : tie.Need-same-requires Inv-loop μ-loop
+same-requires c κs =
+    tt
 
 returns : tie.Need-returns Inv-loop μ-loop
 returns c =
-    sym (contains-stops _ _ (ap (startsWith (c .before .before .before .before .before .before .before .args .s .now)) (sym (part (c .before .before .before .before .before .before .before .args .t .now) (c .before .before .before .before .loop .i))) ∙ sym (c .before .starts-with .ensures) ∙ c .if1 .taken)) ∙ c .before .before .before .before .loop .inv .1
+    let a = c .before .before .before .before .before .before .before .args in
+    let p = c .before .before .before .before .loop in
+    sym (contains-stops (a .s .now) (drop (p .i) (a .t .now)) (sym (starts-at (a .s .now) (a .t .now) (p .i) (p .inv .0) (c .before .before .before .loop-test .taken)) ∙ sym (c .before .same .ensures) ∙ c .if1 .taken)) ∙ p .inv .1
 
 add-i : tie.Need-add-i Inv-loop μ-loop
-add-i c = search needs
+add-i c =
+    omega (arith, c .before .before .before .before .loop .inv .0)
 
 loop-less : tie.Need-loop-less Inv-loop μ-loop
-loop-less c = search needs
+loop-less c =
+    let a = c .before .before .before .before .before .before .before .args in
+    let p = c .before .before .before .before .loop in
+    let e : startsWith (a .s .now) (drop (p .i) (a .t .now)) ≡ false = sym (starts-at (a .s .now) (a .t .now) (p .i) (p .inv .0) (c .before .before .before .loop-test .taken)) ∙ sym (c .before .same .ensures) ∙ c .if1 .left in
+    omega (arith, p .inv .0, c .before .before .before .loop-test .taken, starts-some (a .s .now) (drop (p .i) (a .t .now)) e)
 
 loop-again : tie.Need-loop-again Inv-loop μ-loop
 loop-again c =
-    (omega arith, sym (contains-goes (c .before .before .before .before .before .before .before .args .s .now) (c .before .before .before .before .before .before .before .args .t .now) (c .before .before .before .before .loop .i) (c .before .before .before .loop-test .taken) (ap (startsWith (c .before .before .before .before .before .before .before .args .s .now)) (sym (part (c .before .before .before .before .before .before .before .args .t .now) (c .before .before .before .before .loop .i))) ∙ sym (c .before .starts-with .ensures) ∙ c .if1 .left)) ∙ c .before .before .before .before .loop .inv .1)
-
-sub-starts-with-2 : tie.Need-sub-starts-with-2 Inv-loop μ-loop
-sub-starts-with-2 c = search needs
-
-part-starts-with-start-2 : tie.Need-part-starts-with-start-2 Inv-loop μ-loop
-part-starts-with-start-2 c = search needs
-
-part-starts-with-end-2 : tie.Need-part-starts-with-end-2 Inv-loop μ-loop
-part-starts-with-end-2 c = search needs
-
-starts-with-requires-2 : tie.Need-starts-with-requires-2 Inv-loop μ-loop
-starts-with-requires-2 c κs = search needs
+    let a = c .before .before .before .before .before .before .before .args in
+    let p = c .before .before .before .before .loop in
+    let e : startsWith (a .s .now) (drop (p .i) (a .t .now)) ≡ false = sym (starts-at (a .s .now) (a .t .now) (p .i) (p .inv .0) (c .before .before .before .loop-test .taken)) ∙ sym (c .before .same .ensures) ∙ c .if1 .left in
+    let l : p .i < length (a .t .now) = omega (arith, p .inv .0, c .before .before .before .loop-test .taken, starts-some (a .s .now) (drop (p .i) (a .t .now)) e) in
+    (omega arith, sym (contains-goes (a .s .now) (a .t .now) (p .i) l e) ∙ p .inv .1)
 
 returns-2 : tie.Need-returns-2 Inv-loop μ-loop
 returns-2 c =
-    c .starts-with2 .ensures ∙ ap (startsWith (c .before .before .before .before .before .before .args .s .now)) (part (c .before .before .before .before .before .before .args .t .now) (c .before .before .before .loop .i)) ∙ contains-ends (c .before .before .before .before .before .before .args .s .now) (c .before .before .before .before .before .before .args .t .now) (c .before .before .before .loop .i) (c .before .before .loop-test .left) ∙ c .before .before .before .loop .inv .1
+    let a = c .before .before .before .before .args in
+    let p = c .before .loop in
+    sym (contains-short (a .s .now) (drop (p .i) (a .t .now)) (omega (arith, length-drop (p .i) (a .t .now), c .loop-test .left))) ∙ p .inv .1
 
 pub contains-spec : {M : Type 1} → statement M
 contains-spec =
@@ -69,16 +81,14 @@ contains-spec =
     Inv-loop
     μ-loop
     loop-holds
-    sub-starts-with
-    part-starts-with-start
-    part-starts-with-end
-    starts-with-requires
+    sub-loop
+    add-same
+    sub-same
+    part-same-start
+    part-same-end
+    same-requires
     returns
     add-i
     loop-less
     loop-again
-    sub-starts-with-2
-    part-starts-with-start-2
-    part-starts-with-end-2
-    starts-with-requires-2
     returns-2)
