@@ -92,10 +92,10 @@ fn counted(bytes: &[u8], at: usize, labels: u8) -> Read
     if !is_arity(labels, n) {
         return Read::Fault(at);
     }
-    if labels == 0 {
-        return skip(bytes, at, wide8(n) + 1);
+    match labels {
+        0 => skip(bytes, at, wide8(n) + 1),
+        _ => labelled(bytes, at + 1, wide8(n)),
     }
-    labelled(bytes, at + 1, wide8(n))
 }
 
 // Labels or not, arity, fields.

@@ -23,10 +23,10 @@ pub fn is_line_length(n: usize) -> bool
 pub fn is_name_length(n: u8) -> bool
     ensures { λ r. ⌜ r ≡ among 1 32 n ⌝ }
 {
-    if n == 0 {
-        return false;
+    match n {
+        0 => false,
+        _ => n <= 32,
     }
-    n <= 32
 }
 
 // 4: may a constructor have n fields, with labels (1) or without (0).

@@ -36,9 +36,18 @@ module _ (w k : ℕ) where
   unfolding suitsKind
   kind-pair e = rw e
 
-  pub kind-tuple : (x : ℕ) → w ≡ suc (suc (suc (suc (suc (suc (suc (suc x))))))) → eqb k 4 ≡ suitsKind w k
-  unfolding suitsKind
-  kind-tuple x e = rw e
+-- 8: any other pattern
+pub kind-tuple : (w k : ℕ) → (w ≡ 0 → ⊥) → (w ≡ 1 → ⊥) → (w ≡ 2 → ⊥) → (w ≡ 3 → ⊥) → (w ≡ 4 → ⊥) → (w ≡ 5 → ⊥) → (w ≡ 6 → ⊥) → (w ≡ 7 → ⊥) → eqb k 4 ≡ suitsKind w k
+unfolding suitsKind
+kind-tuple zero k a b c d e f g h = absurd (a refl)
+kind-tuple (suc zero) k a b c d e f g h = absurd (b refl)
+kind-tuple (suc (suc zero)) k a b c d e f g h = absurd (c refl)
+kind-tuple (suc (suc (suc zero))) k a b c d e f g h = absurd (d refl)
+kind-tuple (suc (suc (suc (suc zero)))) k a b c d e f g h = absurd (e refl)
+kind-tuple (suc (suc (suc (suc (suc zero))))) k a b c d e f g h = absurd (f refl)
+kind-tuple (suc (suc (suc (suc (suc (suc zero)))))) k a b c d e f g h = absurd (g refl)
+kind-tuple (suc (suc (suc (suc (suc (suc (suc zero))))))) k a b c d e f g h = absurd (h refl)
+kind-tuple (suc (suc (suc (suc (suc (suc (suc (suc w)))))))) k a b c d e f g h = refl
 
 -- 8: the number of arguments
 pub enough-spread : (k : ℕ) (spread : Bool) (n : ℕ) → spread ≡ true → leb k n ≡ (eqb k n || (spread && leb k n))

@@ -9,10 +9,10 @@ ghost use Rattle.rules.specs.Kinds.{suitsKind};
 pub fn suits_kind(what: u8, kind: u8) -> bool
     ensures { λ r. ⌜ r ≡ suitsKind what kind ⌝ }
 {
-    if what < 3 {
-        return true;
-    }
     match what {
+        0 => true,
+        1 => true,
+        2 => true,
         3 => kind == 0,
         4 => kind == 1,
         5 => kind == 3,

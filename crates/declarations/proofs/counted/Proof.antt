@@ -30,7 +30,7 @@ skip-requires c κs = search needs
 returns-2 : tie.Need-returns-2
 returns-2 c =
     let a = c .before .before .before .before .before .before .before .args in
-    fields-plain (a .bytes .now) (a .at) (a .labels) (c .before .before .before .before .before .at8 .result) (c .before .before .before .before .before .before .before .pre .0) (c .before .before .before .before .before .before .before .pre .1) (c .before .before .before .before .before .at8 .ensures) (sym (c .before .before .before .before .is-arity .ensures) ∙ not-false _ (c .before .before .before .if1 .left)) (c .skip .result) (c .before .wide8 .result) (c .before .wide8 .ensures) (c .before .before .if2 .taken) (c .skip .ensures)
+    fields-plain (a .bytes .now) (a .at) (a .labels) (c .before .before .before .before .before .at8 .result) (c .before .before .before .before .before .before .before .pre .0) (c .before .before .before .before .before .before .before .pre .1) (c .before .before .before .before .before .at8 .ensures) (sym (c .before .before .before .before .is-arity .ensures) ∙ not-false _ (c .before .before .before .if1 .left)) (c .skip .result) (c .before .wide8 .result) (c .before .wide8 .ensures) (c .before .before .match .keys1) (c .skip .ensures)
 
 add-labelled : tie.Need-add-labelled
 add-labelled c = search needs
@@ -41,13 +41,13 @@ wide8-requires-2 c κs = search needs
 labelled-requires : tie.Need-labelled-requires
 labelled-requires c κs =
     let a = c .before .before .before .before .before .before .args in
-    let l = labels-inside (a .bytes .now) (a .at) (a .labels) (c .before .before .before .before .at8 .result) (c .before .before .before .before .before .before .pre .0) (c .before .before .before .before .before .before .pre .1) (c .before .before .before .before .at8 .ensures) (sym (c .before .before .before .is-arity .ensures) ∙ not-false _ (c .before .before .if1 .left)) (c .before .if2 .left) in
+    let l = labels-inside (a .bytes .now) (a .at) (a .labels) (c .before .before .before .before .at8 .result) (c .before .before .before .before .before .before .pre .0) (c .before .before .before .before .before .before .pre .1) (c .before .before .before .before .at8 .ensures) (sym (c .before .before .before .is-arity .ensures) ∙ not-false _ (c .before .before .if1 .left)) (c .before .match .rest .1) in
     omega arith
 
 returns-3 : tie.Need-returns-3
 returns-3 c =
     let a = c .before .before .before .before .before .before .before .args in
-    fields-labelled (a .bytes .now) (a .at) (a .labels) (c .before .before .before .before .before .at8 .result) (c .before .before .before .before .before .before .before .pre .0) (c .before .before .before .before .before .before .before .pre .1) (c .before .before .before .before .before .at8 .ensures) (sym (c .before .before .before .before .is-arity .ensures) ∙ not-false _ (c .before .before .before .if1 .left)) (c .labelled .result) (c .before .wide82 .result) (c .before .wide82 .ensures) (c .before .before .if2 .left) (c .labelled .ensures)
+    fields-labelled (a .bytes .now) (a .at) (a .labels) (c .before .before .before .before .before .at8 .result) (c .before .before .before .before .before .before .before .pre .0) (c .before .before .before .before .before .before .before .pre .1) (c .before .before .before .before .before .at8 .ensures) (sym (c .before .before .before .before .is-arity .ensures) ∙ not-false _ (c .before .before .before .if1 .left)) (c .labelled .result) (c .before .wide82 .result) (c .before .wide82 .ensures) (c .before .before .match .rest .1) (c .labelled .ensures)
 
 pub counted-spec : {M : Type 1} → statement M
 counted-spec =
@@ -59,8 +59,8 @@ counted-spec =
     wide8-requires
     add-skip
     skip-requires
-    returns-2
     add-labelled
     wide8-requires-2
     labelled-requires
+    returns-2
     returns-3)
