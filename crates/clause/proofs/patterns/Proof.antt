@@ -33,18 +33,9 @@ one-pattern-requires : tie.Need-one-pattern-requires Inv-loop μ-loop
 one-pattern-requires c κs =
     c .before .loop .inv .0
 
-enum-known-r : tie.Need-enum-known-r Inv-loop μ-loop
-enum-known-r c = search needs
-
 returns : tie.Need-returns Inv-loop μ-loop
 returns c =
     patterns-stops (c .before .before .before .before .before .before .before .args .bytes .now) (c .before .before .before .before .before .loop .p) (c .before .before .before .before .before .loop .left) (c .before .before .before .one-pattern .result) (c .before .r .given .0 .0) (c .before .before .before .before .loop-test .taken) (c .before .before .before .one-pattern .ensures .0) (c .before .r .given .1) ∙ c .before .before .before .before .before .loop .inv .2
-
-enum-known-r-2 : tie.Need-enum-known-r-2 Inv-loop μ-loop
-enum-known-r-2 c = search needs
-
-sub-left : tie.Need-sub-left Inv-loop μ-loop
-sub-left c = search needs
 
 add-left : tie.Need-add-left Inv-loop μ-loop
 add-left c =
@@ -75,10 +66,10 @@ patterns-spec =
     μ-loop
     loop-holds
     one-pattern-requires
-    enum-known-r
+    (λ c. search needs)
     returns
-    enum-known-r-2
-    sub-left
+    (λ c. search needs)
+    (λ c. search needs)
     add-left
     loop-less
     loop-again

@@ -28,66 +28,6 @@ search-holds : tie.Need-search-holds Inv-loop μ-loop Inv-search μ-search
 search-holds c =
     (omega arith, refl, refl)
 
-mul-wide16 : tie.Need-mul-wide16 Inv-loop μ-loop Inv-search μ-search
-mul-wide16 c =
-    search needs
-
-shared-slice-read-wide16 : tie.Need-shared-slice-read-wide16 Inv-loop μ-loop Inv-search μ-search
-shared-slice-read-wide16 c =
-    omega arith
-
-wide16-requires : tie.Need-wide16-requires Inv-loop μ-loop Inv-search μ-search
-wide16-requires c κs =
-    search needs
-
-head-requires : tie.Need-head-requires Inv-loop μ-loop Inv-search μ-search
-head-requires c κs =
-    search needs
-
-base-requires : tie.Need-base-requires Inv-loop μ-loop Inv-search μ-search
-base-requires c κs =
-    search needs
-
-count-requires : tie.Need-count-requires Inv-loop μ-loop Inv-search μ-search
-count-requires c κs =
-    search needs
-
-loop-holds : tie.Need-loop-holds Inv-loop μ-loop Inv-search μ-search
-loop-holds c =
-    omega arith
-
-wide16-requires-2 : tie.Need-wide16-requires-2 Inv-loop μ-loop Inv-search μ-search
-wide16-requires-2 c κs =
-    search needs
-
-add-if3 : tie.Need-add-if3 Inv-loop μ-loop Inv-search μ-search
-add-if3 c =
-    omega arith
-
-wide16-requires-3 : tie.Need-wide16-requires-3 Inv-loop μ-loop Inv-search μ-search
-wide16-requires-3 c κs =
-    search needs
-
-add-c : tie.Need-add-c Inv-loop μ-loop Inv-search μ-search
-add-c c =
-    omega arith
-
-loop-less : tie.Need-loop-less Inv-loop μ-loop Inv-search μ-search
-loop-less c =
-    omega arith
-
-loop-again : tie.Need-loop-again Inv-loop μ-loop Inv-search μ-search
-loop-again c =
-    omega arith
-
-add-i : tie.Need-add-i Inv-loop μ-loop Inv-search μ-search
-add-i c =
-    omega arith
-
-search-less : tie.Need-search-less Inv-loop μ-loop Inv-search μ-search
-search-less c =
-    omega arith
-
 search-again : tie.Need-search-again Inv-loop μ-loop Inv-search μ-search
 search-again c =
     let a = c .before .before .before .before .before .before .before .before .before .before .args in
@@ -125,21 +65,21 @@ first-spec =
     Inv-search
     μ-search
     search-holds
-    mul-wide16
-    shared-slice-read-wide16
-    wide16-requires
-    head-requires
-    base-requires
-    count-requires
-    loop-holds
-    wide16-requires-2
-    add-if3
-    wide16-requires-3
-    add-c
-    loop-less
-    loop-again
-    add-i
-    search-less
+    (λ c. search needs)
+    (λ c. omega arith)
+    (λ c κs. search needs)
+    (λ c κs. search needs)
+    (λ c κs. search needs)
+    (λ c κs. search needs)
+    (λ c. omega arith)
+    (λ c κs. search needs)
+    (λ c. omega arith)
+    (λ c κs. search needs)
+    (λ c. omega arith)
+    (λ c. omega arith)
+    (λ c. omega arith)
+    (λ c. omega arith)
+    (λ c. omega arith)
     search-again
     returns
     returns-2)

@@ -7,36 +7,15 @@ use borrow.Author.Needs.{needs}
 use Rattle.declarations.proofs.counted.Statement.{statement}
 use Rattle.declarations.proofs.counted.Tie as tie
 
-at8-requires : tie.Need-at8-requires
-at8-requires c κs = search needs
-
-is-arity-requires : tie.Need-is-arity-requires
-is-arity-requires c κs = search needs
-
 returns : tie.Need-returns
 returns c =
     let a = c .before .before .before .before .args in
     arity-stops (a .bytes .now) (a .at) (a .labels) (c .before .before .at8 .result) (c .before .before .before .before .pre .0) (c .before .before .before .before .pre .1) (c .before .before .at8 .ensures) (sym (c .before .is-arity .ensures) ∙ not-true _ (c .if1 .taken))
 
-wide8-requires : tie.Need-wide8-requires
-wide8-requires c κs = search needs
-
-add-skip : tie.Need-add-skip
-add-skip c = search needs
-
-skip-requires : tie.Need-skip-requires
-skip-requires c κs = search needs
-
 returns-2 : tie.Need-returns-2
 returns-2 c =
     let a = c .before .before .before .before .before .before .before .args in
     fields-plain (a .bytes .now) (a .at) (a .labels) (c .before .before .before .before .before .at8 .result) (c .before .before .before .before .before .before .before .pre .0) (c .before .before .before .before .before .before .before .pre .1) (c .before .before .before .before .before .at8 .ensures) (sym (c .before .before .before .before .is-arity .ensures) ∙ not-false _ (c .before .before .before .if1 .left)) (c .skip .result) (c .before .wide8 .result) (c .before .wide8 .ensures) (c .before .before .match .keys1) (c .skip .ensures)
-
-add-labelled : tie.Need-add-labelled
-add-labelled c = search needs
-
-wide8-requires-2 : tie.Need-wide8-requires-2
-wide8-requires-2 c κs = search needs
 
 labelled-requires : tie.Need-labelled-requires
 labelled-requires c κs =
@@ -53,14 +32,14 @@ pub counted-spec : {M : Type 1} → statement M
 counted-spec =
     tie.close
     (tie.spec
-    at8-requires
-    is-arity-requires
+    (λ c κs. search needs)
+    (λ c κs. search needs)
     returns
-    wide8-requires
-    add-skip
-    skip-requires
-    add-labelled
-    wide8-requires-2
+    (λ c κs. search needs)
+    (λ c. search needs)
+    (λ c κs. search needs)
+    (λ c. search needs)
+    (λ c κs. search needs)
     labelled-requires
     returns-2
     returns-3)

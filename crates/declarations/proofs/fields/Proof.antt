@@ -7,15 +7,6 @@ use borrow.Author.Needs.{needs}
 use Rattle.declarations.proofs.fields.Statement.{statement}
 use Rattle.declarations.proofs.fields.Tie as tie
 
-within-requires : tie.Need-within-requires
-within-requires c κs = search needs
-
-enum-known-f : tie.Need-enum-known-f
-enum-known-f c = search needs
-
-enum-told : tie.Need-enum-told
-enum-told c = search needs
-
 returns : tie.Need-returns
 returns c =
     let a = c .before .before .before .before .args in
@@ -41,9 +32,9 @@ pub fields-spec : {M : Type 1} → statement M
 fields-spec =
     tie.close
     (tie.spec
-    within-requires
-    enum-known-f
-    enum-told
+    (λ c κs. search needs)
+    (λ c. search needs)
+    (λ c. search needs)
     returns
     shared-slice-read-counted
     counted-requires

@@ -25,21 +25,9 @@ field-requires : tie.Need-field-requires Inv-loop μ-loop
 field-requires c κs =
     c .before .loop .inv .0
 
-enum-known-r : tie.Need-enum-known-r Inv-loop μ-loop
-enum-known-r c = search needs
-
-enum-told : tie.Need-enum-told Inv-loop μ-loop
-enum-told c = search needs
-
 returns : tie.Need-returns Inv-loop μ-loop
 returns c =
     times-stops field (c .before .before .before .before .before .before .args .bytes .now) (c .before .before .before .before .loop .p) (c .before .before .before .before .loop .left) (c .before .before .field .result) (c .enum-told .given .0 .0) (c .before .before .before .loop-test .taken) (c .before .before .field .ensures) (c .enum-told .given .1) ∙ c .before .before .before .before .loop .inv .1
-
-sub-left : tie.Need-sub-left Inv-loop μ-loop
-sub-left c = search needs
-
-loop-less : tie.Need-loop-less Inv-loop μ-loop
-loop-less c = search needs
 
 loop-again : tie.Need-loop-again Inv-loop μ-loop
 loop-again c =
@@ -58,10 +46,10 @@ labelled-spec =
     μ-loop
     loop-holds
     field-requires
-    enum-known-r
-    enum-told
+    (λ c. search needs)
+    (λ c. search needs)
     returns
-    sub-left
-    loop-less
+    (λ c. search needs)
+    (λ c. search needs)
     loop-again
     returns-2)

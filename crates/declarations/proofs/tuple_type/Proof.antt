@@ -7,12 +7,6 @@ use borrow.Author.Needs.{needs}
 use Rattle.declarations.proofs.tuple_type.Statement.{statement}
 use Rattle.declarations.proofs.tuple_type.Tie as tie
 
-at8-requires : tie.Need-at8-requires
-at8-requires c κs = search needs
-
-among-requires : tie.Need-among-requires
-among-requires c κs = search needs
-
 returns : tie.Need-returns
 returns c =
     let a = c .before .before .before .before .args in
@@ -21,9 +15,6 @@ returns c =
 add-skip : tie.Need-add-skip
 add-skip c =
     omega (arith, c .before .before .before .before)
-
-wide8-requires : tie.Need-wide8-requires
-wide8-requires c κs = search needs
 
 skip-requires : tie.Need-skip-requires
 skip-requires c κs =
@@ -38,4 +29,4 @@ returns-2 c =
 pub tuple-type-spec : {M : Type 1} → statement M
 tuple-type-spec =
     tie.close
-    (tie.spec at8-requires among-requires returns add-skip wide8-requires skip-requires returns-2)
+    (tie.spec (λ c κs. search needs) (λ c κs. search needs) returns add-skip (λ c κs. search needs) skip-requires returns-2)

@@ -23,14 +23,6 @@ loop-holds : tie.Need-loop-holds Inv-loop μ-loop
 loop-holds c =
     (c .before .pre, refl)
 
-at8-requires : tie.Need-at8-requires Inv-loop μ-loop
-at8-requires c κs =
-    tt
-
-is-letter-requires : tie.Need-is-letter-requires Inv-loop μ-loop
-is-letter-requires c κs =
-    tt
-
 returns : tie.Need-returns Inv-loop μ-loop
 returns c =
     let a = c .before .before .before .before .before .before .args in
@@ -42,14 +34,6 @@ add-p : tie.Need-add-p Inv-loop μ-loop
 add-p c =
     let l = c .before .before .before .before .loop in
     omega (arith, c .before .before .before .before .before .before, l .inv .0)
-
-sub-left : tie.Need-sub-left Inv-loop μ-loop
-sub-left c =
-    omega arith
-
-loop-less : tie.Need-loop-less Inv-loop μ-loop
-loop-less c =
-    omega arith
 
 loop-again : tie.Need-loop-again Inv-loop μ-loop
 loop-again c =
@@ -72,11 +56,11 @@ letters-spec =
     Inv-loop
     μ-loop
     loop-holds
-    at8-requires
-    is-letter-requires
+    (λ c κs. tt)
+    (λ c κs. tt)
     returns
     add-p
-    sub-left
-    loop-less
+    (λ c. omega arith)
+    (λ c. omega arith)
     loop-again
     returns-2)

@@ -7,39 +7,15 @@ use borrow.Author.Needs.{needs}
 use Rattle.fields.proofs.name.Statement.{statement}
 use Rattle.fields.proofs.name.Tie as tie
 
-at8-requires : tie.Need-at8-requires
-at8-requires c κs = search needs
-
-is-name-length-requires : tie.Need-is-name-length-requires
-is-name-length-requires c κs = search needs
-
 returns : tie.Need-returns
 returns c =
     let a = c .before .before .before .before .args in
     name-length (a .big) (a .bytes .now) (a .at) (c .before .before .at8 .result) (c .before .before .before .before .pre) (c .before .before .at8 .ensures) (sym (c .before .is-name-length .ensures) ∙ not-true _ (c .if1 .taken))
 
-add-at8 : tie.Need-add-at8
-add-at8 c = search needs
-
-at8-requires-2 : tie.Need-at8-requires-2
-at8-requires-2 c κs = search needs
-
-is-letter-requires : tie.Need-is-letter-requires
-is-letter-requires c κs = search needs
-
-add-t9 : tie.Need-add-t9
-add-t9 c = search needs
-
 returns-2 : tie.Need-returns-2
 returns-2 c =
     let a = c .before .before .before .before .before .before .before .args in
     name-first (a .big) (a .bytes .now) (a .at) (c .before .before .before .before .before .at8 .result) (c .before .before .before .before .before .before .before .pre) (c .before .before .before .before .before .at8 .ensures) (c .before .before .at82 .result) (c .before .before .at82 .ensures) (sym (c .before .before .before .before .is-name-length .ensures) ∙ not-false _ (c .before .before .before .if1 .left)) (sym (c .before .is-letter .ensures) ∙ not-true _ (c .if2 .taken))
-
-add-letters : tie.Need-add-letters
-add-letters c = search needs
-
-wide8-requires : tie.Need-wide8-requires
-wide8-requires c κs = search needs
 
 sub-letters : tie.Need-sub-letters
 sub-letters c =
@@ -60,16 +36,16 @@ pub name-spec : {M : Type 1} → statement M
 name-spec =
     tie.close
     (tie.spec
-    at8-requires
-    is-name-length-requires
+    (λ c κs. search needs)
+    (λ c κs. search needs)
     returns
-    add-at8
-    at8-requires-2
-    is-letter-requires
-    add-t9
+    (λ c. search needs)
+    (λ c κs. search needs)
+    (λ c κs. search needs)
+    (λ c. search needs)
     returns-2
-    add-letters
-    wide8-requires
+    (λ c. search needs)
+    (λ c κs. search needs)
     sub-letters
     letters-requires
     returns-3)

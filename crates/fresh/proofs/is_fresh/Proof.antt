@@ -8,12 +8,6 @@ use Rattle.fresh.proofs.is_fresh.Tie as tie
 mul-name-there : tie.Need-mul-name-there
 mul-name-there c = omega (arith, c .before .before .before .pre)
 
-at8-requires : tie.Need-at8-requires
-at8-requires c κs = tt
-
-wide8-requires : tie.Need-wide8-requires
-wide8-requires c κs = tt
-
 name-there-requires : tie.Need-name-there-requires
 name-there-requires c κs = omega (arith, c .before .before .before .before .before .pre, c .wide8 .ensures, c .before .at8 .ok)
 
@@ -38,8 +32,8 @@ is-fresh-spec =
     tie.close
     (tie.spec
     mul-name-there
-    at8-requires
-    wide8-requires
+    (λ c κs. tt)
+    (λ c κs. tt)
     name-there-requires
     returns
     after-name-requires

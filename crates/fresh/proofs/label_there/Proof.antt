@@ -20,29 +20,11 @@ abbrev μ-loop : tie.MeasureT-loop
 loop-holds : tie.Need-loop-holds Inv-loop μ-loop
 loop-holds c = (omega arith, omega arith, refl)
 
-add-same-at : tie.Need-add-same-at Inv-loop μ-loop
-add-same-at c = omega arith
-
-same-at-requires : tie.Need-same-at-requires Inv-loop μ-loop
-same-at-requires c κs = tt
-
 returns : tie.Need-returns Inv-loop μ-loop
 returns c =
     let a = c .before .before .before .before .before .args in
     let l = c .before .before .before .loop in
     sym (l .inv .2 ∙ any-off (sameText (textAt (a .bytes .now) (a .at))) _ _ _ (labels-step (a .bytes .now) (l .q) (l .left) (l .left - 1) (l .q + 1 + 1 + getD (a .bytes .now) (l .q + 1) 0) (omega arith) refl) (sym (c .before .same-at .ensures) ∙ c .if1 .taken))
-
-add-after-name : tie.Need-add-after-name Inv-loop μ-loop
-add-after-name c = omega arith
-
-after-name-requires : tie.Need-after-name-requires Inv-loop μ-loop
-after-name-requires c κs = omega arith
-
-sub-left : tie.Need-sub-left Inv-loop μ-loop
-sub-left c = omega arith
-
-loop-less : tie.Need-loop-less Inv-loop μ-loop
-loop-less c = omega arith
 
 loop-again : tie.Need-loop-again Inv-loop μ-loop
 loop-again c =
@@ -64,12 +46,12 @@ label-there-spec =
     Inv-loop
     μ-loop
     loop-holds
-    add-same-at
-    same-at-requires
+    (λ c. omega arith)
+    (λ c κs. tt)
     returns
-    add-after-name
-    after-name-requires
-    sub-left
-    loop-less
+    (λ c. omega arith)
+    (λ c κs. omega arith)
+    (λ c. omega arith)
+    (λ c. omega arith)
     loop-again
     returns-2)

@@ -6,9 +6,6 @@ use Rattle.fresh.proofs.Texts.{labels-none, labels-decide}
 use Rattle.fresh.proofs.labels_new.Statement.{statement}
 use Rattle.fresh.proofs.labels_new.Tie as tie
 
-at8-requires : tie.Need-at8-requires
-at8-requires c κs = tt
-
 returns : tie.Need-returns
 returns c =
     let a = c .before .before .before .args in
@@ -19,12 +16,6 @@ add-labels-twice c = omega (arith, c .before .before .before .pre)
 
 add-at8 : tie.Need-add-at8
 add-at8 c = omega (arith, c .before .before .before .pre)
-
-at8-requires-2 : tie.Need-at8-requires-2
-at8-requires-2 c κs = tt
-
-wide8-requires : tie.Need-wide8-requires
-wide8-requires c κs = tt
 
 labels-twice-requires : tie.Need-labels-twice-requires
 labels-twice-requires c κs = omega (arith, c .before .before .before .before .before .pre, c .wide8 .ensures, c .before .at82 .ok)
@@ -38,11 +29,11 @@ pub labels-new-spec : {M : Type 1} → statement M
 labels-new-spec =
     tie.close
     (tie.spec
-    at8-requires
+    (λ c κs. tt)
     returns
     add-labels-twice
     add-at8
-    at8-requires-2
-    wide8-requires
+    (λ c κs. tt)
+    (λ c κs. tt)
     labels-twice-requires
     returns-2)

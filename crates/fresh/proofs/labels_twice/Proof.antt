@@ -17,18 +17,6 @@ abbrev μ-loop : tie.MeasureT-loop
 loop-holds : tie.Need-loop-holds Inv-loop μ-loop
 loop-holds c = (omega arith, omega arith, refl)
 
-add-after-name : tie.Need-add-after-name Inv-loop μ-loop
-add-after-name c = omega arith
-
-after-name-requires : tie.Need-after-name-requires Inv-loop μ-loop
-after-name-requires c κs = omega arith
-
-sub-more : tie.Need-sub-more Inv-loop μ-loop
-sub-more c = omega arith
-
-add-label-there : tie.Need-add-label-there Inv-loop μ-loop
-add-label-there c = omega arith
-
 label-there-requires : tie.Need-label-there-requires Inv-loop μ-loop
 label-there-requires c κs = omega (arith, c .before .before .before .before .pre, c .after-name .ensures .1)
 
@@ -38,9 +26,6 @@ returns c =
     let l = c .before .before .before .before .loop in
     let step = labels-step (a .bytes .now) (l .q) (l .more) (l .more - 1) (c .before .before .after-name .result) (omega arith) (c .before .before .after-name .ensures .0) in
     sym (l .inv .2 ∙ twice-off _ _ _ step (sym (c .before .label-there .ensures) ∙ c .if1 .taken))
-
-loop-less : tie.Need-loop-less Inv-loop μ-loop
-loop-less c = omega arith
 
 loop-again : tie.Need-loop-again Inv-loop μ-loop
 loop-again c =
@@ -63,12 +48,12 @@ labels-twice-spec =
     Inv-loop
     μ-loop
     loop-holds
-    add-after-name
-    after-name-requires
-    sub-more
-    add-label-there
+    (λ c. omega arith)
+    (λ c κs. omega arith)
+    (λ c. omega arith)
+    (λ c. omega arith)
     label-there-requires
     returns
-    loop-less
+    (λ c. omega arith)
     loop-again
     returns-2)

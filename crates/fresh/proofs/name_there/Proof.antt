@@ -22,30 +22,12 @@ loop-holds c =
     let a = c .before .before .args in
     (omega arith, names-start (a .bytes .now) (a .at) (a .names .now) (a .from) (a .n))
 
-add-at16 : tie.Need-add-at16 Inv-loop μ-loop
-add-at16 c = omega arith
-
-at16-requires : tie.Need-at16-requires Inv-loop μ-loop
-at16-requires c κs = tt
-
-wide16-requires : tie.Need-wide16-requires Inv-loop μ-loop
-wide16-requires c κs = tt
-
-same-at-requires : tie.Need-same-at-requires Inv-loop μ-loop
-same-at-requires c κs = tt
-
 returns : tie.Need-returns Inv-loop μ-loop
 returns c =
     let a = c .before .before .before .before .before .before .before .before .args in
     let l = c .before .before .before .before .before .loop in
     let found = sym (c .before .same-at .ensures ∙ ap (λ p. sameText (textAt (a .bytes .now) (a .at)) (textAt (a .bytes .now) p)) (c .before .before .wide16 .ensures ∙ c .before .before .before .at16 .ensures)) ∙ c .if1 .taken in
     sym (l .inv .1 ∙ any-off (λ p. sameText (textAt (a .bytes .now) (a .at)) (textAt (a .bytes .now) p)) _ _ _ (reads-step (a .names .now) (a .from) (l .i) (a .n) (omega arith)) found)
-
-add-i : tie.Need-add-i Inv-loop μ-loop
-add-i c = omega arith
-
-loop-less : tie.Need-loop-less Inv-loop μ-loop
-loop-less c = omega arith
 
 loop-again : tie.Need-loop-again Inv-loop μ-loop
 loop-again c =
@@ -67,12 +49,12 @@ name-there-spec =
     Inv-loop
     μ-loop
     loop-holds
-    add-at16
-    at16-requires
-    wide16-requires
-    same-at-requires
+    (λ c. omega arith)
+    (λ c κs. tt)
+    (λ c κs. tt)
+    (λ c κs. tt)
     returns
-    add-i
-    loop-less
+    (λ c. omega arith)
+    (λ c. omega arith)
     loop-again
     returns-2)

@@ -4,15 +4,6 @@ use Rattle.scope.specs.Lists.{same as sameText}
 use Rattle.fresh.proofs.same_at.Statement.{statement}
 use Rattle.fresh.proofs.same_at.Tie as tie
 
-name-at-requires : tie.Need-name-at-requires
-name-at-requires c κs = tt
-
-name-at-requires-2 : tie.Need-name-at-requires-2
-name-at-requires-2 c κs = tt
-
-same-requires : tie.Need-same-requires
-same-requires c κs = tt
-
 returns : tie.Need-returns
 returns c = c .same .ensures ∙ ap₂ sameText (c .before .before .name-at .ensures .0) (c .before .name-at2 .ensures .0)
 
@@ -20,7 +11,7 @@ pub same-at-spec : {M : Type 1} → statement M
 same-at-spec =
     tie.close
     (tie.spec
-    name-at-requires
-    name-at-requires-2
-    same-requires
+    (λ c κs. tt)
+    (λ c κs. tt)
+    (λ c κs. tt)
     returns)

@@ -10,8 +10,5 @@ sub-result c = omega (arith, c .pre)
 sub-result-2 : tie.Need-sub-result-2
 sub-result-2 c = omega (arith, c .pre)
 
-returns : tie.Need-returns
-returns c = refl
-
 pub base-spec : {M : Type 1} → statement M
-base-spec = tie.close (tie.spec sub-result sub-result-2 returns)
+base-spec = tie.close (tie.spec sub-result sub-result-2 (λ c. refl))

@@ -21,21 +21,6 @@ loop-holds : tie.Need-loop-holds Inv-loop μ-loop
 loop-holds c =
     (omega arith, refl, refl)
 
-mul-byte-of : tie.Need-mul-byte-of Inv-loop μ-loop
-mul-byte-of c = search needs
-
-shared-slice-read-byte-of : tie.Need-shared-slice-read-byte-of Inv-loop μ-loop
-shared-slice-read-byte-of c = search needs
-
-mul-byte-of-2 : tie.Need-mul-byte-of-2 Inv-loop μ-loop
-mul-byte-of-2 c = search needs
-
-add-byte-of : tie.Need-add-byte-of Inv-loop μ-loop
-add-byte-of c = search needs
-
-shared-slice-read-byte-of-2 : tie.Need-shared-slice-read-byte-of-2 Inv-loop μ-loop
-shared-slice-read-byte-of-2 c = search needs
-
 byte-of-requires : tie.Need-byte-of-requires Inv-loop μ-loop
 byte-of-requires c κs =
     (all-at isHex (c .before .before .before .before .before .before .args .ds .now) _ (c .before .before .before .before .before .before .pre .0) (omega arith), all-at isHex (c .before .before .before .before .before .before .args .ds .now) _ (c .before .before .before .before .before .before .pre .0) (omega arith))
@@ -47,12 +32,6 @@ add-out c =
 slice-write-out : tie.Need-slice-write-out Inv-loop μ-loop
 slice-write-out c =
     omega (arith, c .before .before .before .before .before .before .before .pre, ap length (c .before .before .before .before .loop .inv .2) ∙ length-sets (c .before .before .before .before .before .before .before .args .out .now) (c .before .before .before .before .before .before .before .args .at) (take (c .before .before .before .before .loop .k) (unhex (c .before .before .before .before .before .before .before .args .ds .now))))
-
-add-k : tie.Need-add-k Inv-loop μ-loop
-add-k c = search needs
-
-loop-less : tie.Need-loop-less Inv-loop μ-loop
-loop-less c = search needs
 
 loop-again : tie.Need-loop-again Inv-loop μ-loop
 loop-again c =
@@ -77,16 +56,16 @@ decode-spec =
     Inv-loop
     μ-loop
     loop-holds
-    mul-byte-of
-    shared-slice-read-byte-of
-    mul-byte-of-2
-    add-byte-of
-    shared-slice-read-byte-of-2
+    (λ c. search needs)
+    (λ c. search needs)
+    (λ c. search needs)
+    (λ c. search needs)
+    (λ c. search needs)
     byte-of-requires
     add-out
     slice-write-out
-    add-k
-    loop-less
+    (λ c. search needs)
+    (λ c. search needs)
     loop-again
     add-result
     same-length

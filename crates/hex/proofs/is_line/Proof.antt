@@ -13,28 +13,10 @@ returns c =
     let a = c .before .before .args in
     no-feed (a .file .now) (a .from) (a .end) (c .before .before .pre .0) (c .before .before .pre .1) (sym (le-ltb (a .end) (length (a .file .now)) (c .if1 .taken)))
 
-sub-is-line-length : tie.Need-sub-is-line-length
-sub-is-line-length c = search needs
-
-is-line-length-requires : tie.Need-is-line-length-requires
-is-line-length-requires c κs = search needs
-
 returns-2 : tie.Need-returns-2
 returns-2 c =
     let a = c .before .before .before .before .args in
     no-length (a .file .now) (a .from) (a .end) (c .before .before .before .before .pre .0) (c .before .before .before .before .pre .1) (sym (lt-ltb (a .end) (length (a .file .now)) (omega (arith, c .before .before .if1)))) (sym (not-true _ (c .if2 .taken)) ∙ c .before .is-line-length .ensures)
-
-sub-all-digits : tie.Need-sub-all-digits
-sub-all-digits c = search needs
-
-part-all-digits-start : tie.Need-part-all-digits-start
-part-all-digits-start c = search needs
-
-part-all-digits-end : tie.Need-part-all-digits-end
-part-all-digits-end c = search needs
-
-all-digits-requires : tie.Need-all-digits-requires
-all-digits-requires c κs = search needs
 
 returns-3 : tie.Need-returns-3
 returns-3 c =
@@ -46,11 +28,11 @@ is-line-spec =
     tie.close
     (tie.spec
     returns
-    sub-is-line-length
-    is-line-length-requires
+    (λ c. search needs)
+    (λ c κs. search needs)
     returns-2
-    sub-all-digits
-    part-all-digits-start
-    part-all-digits-end
-    all-digits-requires
+    (λ c. search needs)
+    (λ c. search needs)
+    (λ c. search needs)
+    (λ c κs. search needs)
     returns-3)

@@ -20,14 +20,6 @@ returns c =
     let a = c .before .before .before .before .before .args in
     line-refused (a .file .now) (a .from) (c .before .before .line-end .result) (c .before .before .before .before .before .pre .0) (c .before .before .line-end .ensures) (a .out .now) (c .before .is-line .result) (c .before .is-line .ensures) (not-true _ (c .if1 .taken))
 
-sub-decode : tie.Need-sub-decode
-sub-decode c =
-    omega arith
-
-part-decode-start : tie.Need-part-decode-start
-part-decode-start c =
-    omega arith
-
 part-decode-end : tie.Need-part-decode-end
 part-decode-end c =
     let a = c .before .before .before .before .before .args in
@@ -62,8 +54,8 @@ read-line-spec =
     line-end-requires
     is-line-requires
     returns
-    sub-decode
-    part-decode-start
+    (λ c. omega arith)
+    (λ c. omega arith)
     part-decode-end
     decode-requires
     add-t10

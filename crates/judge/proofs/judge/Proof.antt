@@ -29,14 +29,6 @@ clause-requires : tie.Need-clause-requires Inv-loop μ-loop
 clause-requires c κs =
     (c .before .before .before .before .before .before .before .before .before .before .before .pre .0, (c .before .before .before .before .before .before .before .before .before .before .before .pre .1 .0, (omega (arith, c .before .loop-test .taken), omega (arith, c .before .loop-test .taken, c .before .before .before .before .before .before .before .before .before .before .before .pre .1 .1), omega (arith, c .before .before .loop .inv .1, c .before .before .before .before .before .before .before .before .before .before .before .pre .1 .1))))
 
-enum-known-r : tie.Need-enum-known-r Inv-loop μ-loop
-enum-known-r c =
-    search needs
-
-enum-told : tie.Need-enum-told Inv-loop μ-loop
-enum-told c =
-    search needs
-
 same-length : tie.Need-same-length Inv-loop μ-loop
 same-length c =
     c .before .before .before .before .clause .kept .1 .1 .1 .1 .1 .1 .1 .0 ∙ c .before .before .before .before .before .before .before .loop .inv .1
@@ -53,10 +45,6 @@ returns c =
     let o = over-at (judgedTo (a .bytes .now) (a .counts .now) (a .arities .now) (a .nodes .now) (a .starts .now)) (rising (a .bytes .now) (a .counts .now) (a .arities .now) (a .nodes .now) (a .starts .now)) (c .before .before .before .before .before .before .before .loop .k) (length (a .starts .now)) (c .before .before .before .before .before .before .loop-test .taken) (none-yet (a .bytes .now) (a .counts .now) (a .arities .now) (a .nodes .now) (a .starts .now) (c .before .before .before .before .before .before .before .loop .k)) (before-within (a .bytes .now) (a .counts .now) (a .arities .now) (a .nodes .now) (a .starts .now) (c .before .before .before .before .before .before .before .loop .k) (c .before .before .before .before .before .before .before .loop .calls) (a .verdicts .now) (c .before .before .before .before .before .before .before .loop .verdicts) (c .before .before .before .before .before .before .before .loop .inv .2)) (before-over (a .bytes .now) (a .counts .now) (a .arities .now) (a .nodes .now) (a .starts .now) (c .before .before .before .before .before .before .before .loop .k) (c .before .before .before .before .before .before .before .loop .calls) (a .verdicts .now) (c .before .before .before .before .before .before .before .loop .verdicts) (c .before .before .before .before .before .before .before .loop .inv .2) (sym (c .enum-told .given .1) ∙ c .before .before .before .before .clause .ensures)) in
     let said : c .before .before .before .before .before .before .before .loop .verdicts ≡ sets (a .verdicts .now) 0 (map bit (written (judgedTo (a .bytes .now) (a .counts .now) (a .arities .now) (a .nodes .now) (a .starts .now)) (length (a .starts .now)))) = c .before .before .before .before .before .before .before .loop .inv .2 .verdicts ∙ ap (λ l. sets (a .verdicts .now) 0 (map bit l)) (sym (o .1)) in
     (o .0, (said, judges-all (a .bytes .now) (a .nodes .now) (a .left .now) (a .counts .now) (a .arities .now) (a .starts .now) (c .before .before .before .before .before .before .before .before .before .before .before .before .before .before .before .before .pre .0 .low) (a .verdicts .now) (c .before .before .before .before .before .before .before .loop .verdicts) Over (o .0) said))
-
-bit-of-requires : tie.Need-bit-of-requires Inv-loop μ-loop
-bit-of-requires c κs =
-    tt
 
 slice-write-verdicts : tie.Need-slice-write-verdicts Inv-loop μ-loop
 slice-write-verdicts c =
@@ -105,12 +93,12 @@ judge-spec =
     μ-loop
     loop-holds
     clause-requires
-    enum-known-r
-    enum-told
+    (λ c. search needs)
+    (λ c. search needs)
     same-length
     same-length-2
     returns
-    bit-of-requires
+    (λ c κs. tt)
     slice-write-verdicts
     add-k
     loop-less

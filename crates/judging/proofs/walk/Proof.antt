@@ -16,10 +16,6 @@ judge-requires c κs =
     let h = c .before .before .before .before .before .before .before .before .before .pre in
     (h .0, (h .1 .0, (h .1 .1 .0, h .1 .1 .1, le-trans (h .1 .1 .0) (h .1 .1 .2))))
 
-clear-requires : tie.Need-clear-requires
-clear-requires c κs =
-    tt
-
 same-length : tie.Need-same-length
 same-length c =
     c .before .before .clear .kept .0 ∙ c .before .before .before .before .before .before .before .before .judge .kept .1 .1 .1 .1 .1 .1 .0
@@ -65,7 +61,7 @@ walk-spec =
     judge-requires
     (λ c. search needs)
     (λ c. search needs)
-    clear-requires
+    (λ c κs. tt)
     same-length
     returns
     missing-requires

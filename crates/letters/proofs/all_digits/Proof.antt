@@ -21,21 +21,9 @@ loop-holds : tie.Need-loop-holds Inv-loop μ-loop
 loop-holds c =
     (omega arith, refl)
 
-shared-slice-read-is-digit-of : tie.Need-shared-slice-read-is-digit-of Inv-loop μ-loop
-shared-slice-read-is-digit-of c = search needs
-
-is-digit-of-requires : tie.Need-is-digit-of-requires Inv-loop μ-loop
-is-digit-of-requires c κs = search needs
-
 returns : tie.Need-returns Inv-loop μ-loop
 returns c =
     sym (all-stops (digitOf (c .before .before .before .before .before .before .args .hex)) _ (c .before .before .before .before .loop .i) (c .before .before .before .loop-test .taken) (sym (c .before .is-digit-of .ensures) ∙ not-true _ (c .if1 .taken))) ∙ c .before .before .before .before .loop .inv .1
-
-add-i : tie.Need-add-i Inv-loop μ-loop
-add-i c = search needs
-
-loop-less : tie.Need-loop-less Inv-loop μ-loop
-loop-less c = search needs
 
 loop-again : tie.Need-loop-again Inv-loop μ-loop
 loop-again c =
@@ -52,10 +40,10 @@ all-digits-spec =
     Inv-loop
     μ-loop
     loop-holds
-    shared-slice-read-is-digit-of
-    is-digit-of-requires
+    (λ c. search needs)
+    (λ c κs. search needs)
     returns
-    add-i
-    loop-less
+    (λ c. search needs)
+    (λ c. search needs)
     loop-again
     returns-2)

@@ -4,18 +4,10 @@ use mathlib.Core.Bool.{Bool, _&&_, _||_}
 use Rattle.looks.proofs.closes.Statement.{statement}
 use Rattle.looks.proofs.closes.Tie as tie
 
-is-nil-requires : tie.Need-is-nil-requires
-is-nil-requires c κs =
-    tt
-
-leaves-out-requires : tie.Need-leaves-out-requires
-leaves-out-requires c κs =
-    tt
-
 returns : tie.Need-returns
 returns c =
     let a = c .before .before .before .before .args in
     c .leaves-out .ensures ∙ ap (λ (b : Bool). (a .first || a .paste) && b) (c .before .is-nil .ensures)
 
 pub closes-spec : {M : Type 1} → statement M
-closes-spec = tie.close (tie.spec is-nil-requires leaves-out-requires returns)
+closes-spec = tie.close (tie.spec (λ c κs. tt) (λ c κs. tt) returns)

@@ -3,10 +3,6 @@ use mathlib.Core.Path.{refl}
 use Rattle.marks.proofs.comma.Statement.{statement}
 use Rattle.marks.proofs.comma.Tie as tie
 
-slice-aggregate-all : tie.Need-slice-aggregate-all
-slice-aggregate-all c =
-    refl
-
 all-requires : tie.Need-all-requires
 all-requires c κs =
     c .before .before .before .pre
@@ -20,4 +16,4 @@ returns c =
     c .before .before .all .ensures
 
 pub comma-spec : {M : Type 1} → statement M
-comma-spec = tie.close (tie.spec slice-aggregate-all all-requires same-length returns)
+comma-spec = tie.close (tie.spec (λ c. refl) all-requires same-length returns)

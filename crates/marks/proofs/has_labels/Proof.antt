@@ -7,18 +7,6 @@ use lib.ListN.{getD}
 use Rattle.marks.proofs.has_labels.Statement.{statement}
 use Rattle.marks.proofs.has_labels.Tie as tie
 
-at16-requires : tie.Need-at16-requires
-at16-requires c κs =
-    tt
-
-wide16-requires : tie.Need-wide16-requires
-wide16-requires c κs =
-    tt
-
-at16-requires-2 : tie.Need-at16-requires-2
-at16-requires-2 c κs =
-    tt
-
 returns : tie.Need-returns
 returns c =
     ap (λ (k : ℕ). not (eqb k 0)) (c .at162 .ensures ∙ ap (λ (j : ℕ). getD (c .before .before .before .before .before .args .labels .now) j 0) (c .before .wide16 .ensures ∙ c .before .before .at16 .ensures))
@@ -27,7 +15,7 @@ pub has-labels-spec : {M : Type 1} → statement M
 has-labels-spec =
     tie.close
     (tie.spec
-    at16-requires
-    wide16-requires
-    at16-requires-2
+    (λ c κs. tt)
+    (λ c κs. tt)
+    (λ c κs. tt)
     returns)

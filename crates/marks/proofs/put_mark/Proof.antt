@@ -10,14 +10,6 @@ use Rattle.marks.specs.Marks.{fieldMark}
 use Rattle.marks.proofs.put_mark.Statement.{statement}
 use Rattle.marks.proofs.put_mark.Tie as tie
 
-at16-requires : tie.Need-at16-requires
-at16-requires c κs =
-    tt
-
-wide16-requires : tie.Need-wide16-requires
-wide16-requires c κs =
-    tt
-
 put-label-requires : tie.Need-put-label-requires
 put-label-requires c κs =
     omega (arith, c .before .before .before .before .before .before .before .before .pre)
@@ -40,8 +32,8 @@ pub put-mark-spec : {M : Type 1} → statement M
 put-mark-spec =
     tie.close
     (tie.spec
-    at16-requires
-    wide16-requires
+    (λ c κs. tt)
+    (λ c κs. tt)
     put-label-requires
     same-length
     returns

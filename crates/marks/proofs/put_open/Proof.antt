@@ -4,14 +4,6 @@ use native.Mathlib.Omega.{arith}
 use Rattle.marks.proofs.put_open.Statement.{statement}
 use Rattle.marks.proofs.put_open.Tie as tie
 
-slice-aggregate-either : tie.Need-slice-aggregate-either
-slice-aggregate-either c =
-    refl
-
-slice-aggregate-either-2 : tie.Need-slice-aggregate-either-2
-slice-aggregate-either-2 c =
-    refl
-
 either-requires : tie.Need-either-requires
 either-requires c κs =
     (omega (arith, c .before .before .before .before .pre), omega (arith, c .before .before .before .before .pre))
@@ -27,4 +19,4 @@ returns c =
 pub put-open-spec : {M : Type 1} → statement M
 put-open-spec =
     tie.close
-    (tie.spec slice-aggregate-either slice-aggregate-either-2 either-requires same-length returns)
+    (tie.spec (λ c. refl) (λ c. refl) either-requires same-length returns)

@@ -23,10 +23,6 @@ unfolding steps
 loop-holds c =
     (omega arith, (written-none (c .before .before .before .before .args .s .now) (c .before .before .before .before .args .rows) (c .before .before .before .before .pre .1), omega arith))
 
-mul-onward : tie.Need-mul-onward Inv-loop μ-loop
-mul-onward c =
-    omega arith
-
 slice-read-onward : tie.Need-slice-read-onward Inv-loop μ-loop
 slice-read-onward c =
     let a = c .before .before .before .before .before .before .before .args in
@@ -42,39 +38,11 @@ onward-requires c κs =
     let lt : p .i < length (take (a .rows) (a .s .now)) = omega (arith, length-take-le (a .rows) (a .s .now) (omega arith)) in
     subst (λ (x : ℕ). a .n ≤ getD (a .left .now) x 0 → x + 1 < 65536) (sym rd) (c .before .before .before .before .before .before .before .pre .0 .next (p .i) lt)
 
-enum-known-r : tie.Need-enum-known-r Inv-loop μ-loop
-enum-known-r c =
-    search needs
-
-add-s : tie.Need-add-s Inv-loop μ-loop
-add-s c =
-    omega arith
-
-mul-s : tie.Need-mul-s Inv-loop μ-loop
-mul-s c =
-    omega arith
-
 slice-write-s : tie.Need-slice-write-s Inv-loop μ-loop
 slice-write-s c =
     let a = c .before .before .before .before .before .before .before .before .before .before .before .args in
     let p = c .before .before .before .before .before .before .loop in
     let len : length (p .s) ≡ length (a .s .now) = written-length (a .s .now) (a .rows) (c .before .before .before .before .before .before .before .before .before .before .before .pre .1) (steps (a .bytes .now) (a .nodes .now) (a .left .now) (a .n) (a .key) (take (p .i) (take (a .rows) (a .s .now)))) (p .k) (p .s) (p .inv .1 .0) (omega arith) in
-    omega arith
-
-add-k : tie.Need-add-k Inv-loop μ-loop
-add-k c =
-    omega arith
-
-enum-told : tie.Need-enum-told Inv-loop μ-loop
-enum-told c =
-    search needs
-
-add-i : tie.Need-add-i Inv-loop μ-loop
-add-i c =
-    omega arith
-
-loop-less : tie.Need-loop-less Inv-loop μ-loop
-loop-less c =
     omega arith
 
 loop-again : tie.Need-loop-again Inv-loop μ-loop
@@ -108,17 +76,17 @@ specialize-spec =
     Inv-loop
     μ-loop
     loop-holds
-    mul-onward
+    (λ c. omega arith)
     slice-read-onward
     onward-requires
-    enum-known-r
-    add-s
-    mul-s
+    (λ c. search needs)
+    (λ c. omega arith)
+    (λ c. omega arith)
     slice-write-s
-    add-k
-    enum-told
-    add-i
-    loop-less
+    (λ c. omega arith)
+    (λ c. search needs)
+    (λ c. omega arith)
+    (λ c. omega arith)
     loop-again
     same-length
     returns)

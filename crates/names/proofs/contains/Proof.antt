@@ -27,21 +27,9 @@ add-same : tie.Need-add-same Inv-loop μ-loop
 add-same c =
     omega (arith, c .before .loop .inv .0, c .loop-test .taken)
 
-sub-same : tie.Need-sub-same Inv-loop μ-loop
-sub-same c =
-    omega arith
-
-part-same-start : tie.Need-part-same-start Inv-loop μ-loop
-part-same-start c =
-    omega arith
-
 part-same-end : tie.Need-part-same-end Inv-loop μ-loop
 part-same-end c =
     omega (arith, c .before .loop .inv .0, c .loop-test .taken)
-
-same-requires : tie.Need-same-requires Inv-loop μ-loop
-same-requires c κs =
-    tt
 
 returns : tie.Need-returns Inv-loop μ-loop
 returns c =
@@ -83,10 +71,10 @@ contains-spec =
     loop-holds
     sub-loop
     add-same
-    sub-same
-    part-same-start
+    (λ c. omega arith)
+    (λ c. omega arith)
     part-same-end
-    same-requires
+    (λ c κs. tt)
     returns
     add-i
     loop-less

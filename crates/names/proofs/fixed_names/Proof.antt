@@ -3,8 +3,5 @@ use mathlib.Core.Path.{refl}
 use Rattle.names.proofs.fixed_names.Statement.{statement}
 use Rattle.names.proofs.fixed_names.Tie as tie
 
-returns : tie.Need-returns
-returns c = refl
-
 pub fixed-names-spec : {M : Type 1} → statement M
-fixed-names-spec = tie.close (tie.spec returns)
+fixed-names-spec = tie.close (tie.spec (λ c. refl))

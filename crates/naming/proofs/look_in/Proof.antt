@@ -6,18 +6,10 @@ use Rattle.naming.specs.Naming.{lookOf}
 use Rattle.naming.proofs.look_in.Statement.{statement}
 use Rattle.naming.proofs.look_in.Tie as tie
 
-look-by-kind-requires : tie.Need-look-by-kind-requires
-look-by-kind-requires c κs =
-    tt
-
 returns : tie.Need-returns
 returns c =
     let a = c .before .before .before .args in
     c .look-by-kind .ensures ∙ sym (ap (λ (b : Bool). lookOf (cond b (lookByKind (a .kind) (a .c)) (lookByName (a .name .now)))) (c .before .if1 .taken))
-
-look-by-name-requires : tie.Need-look-by-name-requires
-look-by-name-requires c κs =
-    tt
 
 returns-2 : tie.Need-returns-2
 returns-2 c =
@@ -25,4 +17,4 @@ returns-2 c =
     c .look-by-name .ensures ∙ sym (ap (λ (b : Bool). lookOf (cond b (lookByKind (a .kind) (a .c)) (lookByName (a .name .now)))) (c .before .if1 .left))
 
 pub look-in-spec : {M : Type 1} → statement M
-look-in-spec = tie.close (tie.spec look-by-kind-requires returns look-by-name-requires returns-2)
+look-in-spec = tie.close (tie.spec (λ c κs. tt) returns (λ c κs. tt) returns-2)

@@ -11,18 +11,6 @@ returns-2 : tie.Need-returns-2
 returns-2 c =
     (arity-literal (c .before .before .before .args .arities .now) (c .before .before .before .args .node) (c .if2 .taken), omega arith)
 
-wide16-requires : tie.Need-wide16-requires
-wide16-requires c κs = tt
-
-sub-at8 : tie.Need-sub-at8
-sub-at8 c = omega arith
-
-at8-requires : tie.Need-at8-requires
-at8-requires c κs = tt
-
-wide8-requires : tie.Need-wide8-requires
-wide8-requires c κs = tt
-
 returns-3 : tie.Need-returns-3
 returns-3 c =
     (arity-ctor (c .before .before .before .before .before .before .args .arities .now) (c .before .before .before .before .before .before .args .node) (c .before .before .wide16 .result - 1) (c .before .at8 .result) (c .wide8 .result) (c .before .before .before .before .if1 .left) (c .before .before .before .if2 .left) (ap (λ (x : ℕ). x - 1) (c .before .before .wide16 .ensures)) (c .before .at8 .ensures) (c .wide8 .ensures), omega arith)
@@ -30,4 +18,4 @@ returns-3 c =
 pub arity-spec : {M : Type 1} → statement M
 arity-spec =
     tie.close
-    (tie.spec (λ c. search needs) returns-2 wide16-requires sub-at8 at8-requires wide8-requires returns-3)
+    (tie.spec (λ c. search needs) returns-2 (λ c κs. tt) (λ c. omega arith) (λ c κs. tt) (λ c κs. tt) returns-3)

@@ -21,42 +21,6 @@ loop-holds : tie.Need-loop-holds Inv-loop μ-loop
 loop-holds c =
     (omega arith, left-none (c .before .before .before .args .arities .now) (c .before .before .before .args .left .now) (c .before .before .before .args .used) (take (c .before .before .before .args .count) (drop (c .before .before .before .args .used) (c .before .before .before .args .nodes .now))), after-none (c .before .before .before .args .arities .now) (take (c .before .before .before .args .count) (drop (c .before .before .before .args .used) (c .before .before .before .args .nodes .now))), omega arith)
 
-add-put16 : tie.Need-add-put16 Inv-loop μ-loop
-add-put16 c =
-    omega arith
-
-low-requires : tie.Need-low-requires Inv-loop μ-loop
-low-requires c κs =
-    tt
-
-put16-requires : tie.Need-put16-requires Inv-loop μ-loop
-put16-requires c κs =
-    omega arith
-
-add-at16 : tie.Need-add-at16 Inv-loop μ-loop
-add-at16 c =
-    omega arith
-
-at16-requires : tie.Need-at16-requires Inv-loop μ-loop
-at16-requires c κs =
-    tt
-
-arity-requires : tie.Need-arity-requires Inv-loop μ-loop
-arity-requires c κs =
-    tt
-
-less-requires : tie.Need-less-requires Inv-loop μ-loop
-less-requires c κs =
-    omega arith
-
-add-i : tie.Need-add-i Inv-loop μ-loop
-add-i c =
-    omega arith
-
-loop-less : tie.Need-loop-less Inv-loop μ-loop
-loop-less c =
-    omega arith
-
 loop-again : tie.Need-loop-again Inv-loop μ-loop
 loop-again c =
     let len : length (take (c .before .before .before .before .before .before .before .before .before .before .before .before .before .args .count) (drop (c .before .before .before .before .before .before .before .before .before .before .before .before .before .args .used) (c .before .before .before .before .before .before .before .before .before .before .before .before .before .args .nodes .now))) ≡ c .before .before .before .before .before .before .before .before .before .before .before .before .before .args .count = length-take-le (c .before .before .before .before .before .before .before .before .before .before .before .before .before .args .count) (drop (c .before .before .before .before .before .before .before .before .before .before .before .before .before .args .used) (c .before .before .before .before .before .before .before .before .before .before .before .before .before .args .nodes .now)) (omega (arith, length-drop (c .before .before .before .before .before .before .before .before .before .before .before .before .before .args .used) (c .before .before .before .before .before .before .before .before .before .before .before .before .before .args .nodes .now))) in
@@ -81,15 +45,15 @@ count-left-spec =
     Inv-loop
     μ-loop
     loop-holds
-    add-put16
-    low-requires
-    put16-requires
-    add-at16
-    at16-requires
-    arity-requires
-    less-requires
-    add-i
-    loop-less
+    (λ c. omega arith)
+    (λ c κs. tt)
+    (λ c κs. omega arith)
+    (λ c. omega arith)
+    (λ c κs. tt)
+    (λ c κs. tt)
+    (λ c κs. omega arith)
+    (λ c. omega arith)
+    (λ c. omega arith)
     loop-again
     same-length
     returns)

@@ -19,29 +19,9 @@ loop-holds : tie.Need-loop-holds Inv-loop μ-loop
 loop-holds c =
     (omega arith, refl)
 
-add-put16 : tie.Need-add-put16 Inv-loop μ-loop
-add-put16 c =
-    omega arith
-
-put16-requires : tie.Need-put16-requires Inv-loop μ-loop
-put16-requires c κs =
-    omega arith
-
-add-i : tie.Need-add-i Inv-loop μ-loop
-add-i c =
-    omega arith
-
-loop-less : tie.Need-loop-less Inv-loop μ-loop
-loop-less c =
-    omega arith
-
 loop-again : tie.Need-loop-again Inv-loop μ-loop
 loop-again c =
     (omega arith, c .before .before .put16 .ensures .1 ∙ ap (λ (l : List ℕ). set l (c .before .before .before .before .before .before .before .args .from + c .before .before .before .before .before .loop .i) (c .before .before .before .before .before .before .before .args .node)) (c .before .before .before .before .before .loop .inv .1) ∙ many-next (c .before .before .before .before .before .before .before .args .nodes .now) (c .before .before .before .before .before .before .before .args .from) (c .before .before .before .before .before .loop .i) (c .before .before .before .before .before .before .before .args .node))
-
-add-result : tie.Need-add-result Inv-loop μ-loop
-add-result c =
-    omega arith
 
 same-length : tie.Need-same-length Inv-loop μ-loop
 same-length c =
@@ -59,11 +39,11 @@ put-many-spec =
     Inv-loop
     μ-loop
     loop-holds
-    add-put16
-    put16-requires
-    add-i
-    loop-less
+    (λ c. omega arith)
+    (λ c κs. omega arith)
+    (λ c. omega arith)
+    (λ c. omega arith)
     loop-again
-    add-result
+    (λ c. omega arith)
     same-length
     returns)

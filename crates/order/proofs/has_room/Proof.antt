@@ -3,10 +3,6 @@ use Rattle.order.proofs.Standing.{type-room, clause-room, ctor-room, ot
 use Rattle.order.proofs.has_room.Statement.{statement}
 use Rattle.order.proofs.has_room.Tie as tie
 
-has-ctor-requires : tie.Need-has-ctor-requires
-has-ctor-requires c κs =
-    tt
-
 returns : tie.Need-returns
 returns c =
     let a = c .before .before .args in
@@ -29,4 +25,4 @@ returns-4 c =
     other-room (a .s) (a .last) (a .kind) (m .0 .0 .1) (m .0 .1) (m .1)
 
 pub has-room-spec : {M : Type 1} → statement M
-has-room-spec = tie.close (tie.spec has-ctor-requires returns returns-2 returns-3 returns-4)
+has-room-spec = tie.close (tie.spec (λ c κs. tt) returns returns-2 returns-3 returns-4)

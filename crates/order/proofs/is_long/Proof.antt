@@ -3,8 +3,5 @@ use mathlib.Core.Path.{refl}
 use Rattle.order.proofs.is_long.Statement.{statement}
 use Rattle.order.proofs.is_long.Tie as tie
 
-returns : tie.Need-returns
-returns c = refl
-
 pub is-long-spec : {M : Type 1} → statement M
-is-long-spec = tie.close (tie.spec returns)
+is-long-spec = tie.close (tie.spec (λ c. refl))

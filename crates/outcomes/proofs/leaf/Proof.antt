@@ -4,11 +4,5 @@ use native.Mathlib.Omega.{arith}
 use Rattle.outcomes.proofs.leaf.Statement.{statement}
 use Rattle.outcomes.proofs.leaf.Tie as tie
 
-add-c : tie.Need-add-c
-add-c c = omega arith
-
-returns : tie.Need-returns
-returns c = refl
-
 pub leaf-spec : {M : Type 1} → statement M
-leaf-spec = tie.close (tie.spec add-c returns)
+leaf-spec = tie.close (tie.spec (λ c. omega arith) (λ c. refl))

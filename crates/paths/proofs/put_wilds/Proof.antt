@@ -19,27 +19,12 @@ loop-holds : tie.Need-loop-holds Inv-loop μ-loop
 loop-holds c =
     (omega arith, wilds-start (c .args .n) (c .args .at) (c .args .out .now))
 
-add-put16 : tie.Need-add-put16 Inv-loop μ-loop
-add-put16 c = omega arith
-
-put16-requires : tie.Need-put16-requires Inv-loop μ-loop
-put16-requires c κs = omega arith
-
-add-i : tie.Need-add-i Inv-loop μ-loop
-add-i c = omega arith
-
-loop-less : tie.Need-loop-less Inv-loop μ-loop
-loop-less c = omega arith
-
 loop-again : tie.Need-loop-again Inv-loop μ-loop
 loop-again c =
     let a = c .before .before .before .before .args in
     let p = c .before .before .before .loop in
     let e = c .put16 .ensures .1 in
     (omega arith, ap (λ (x : List ℕ). sets x (a .at + (p .i + 1)) (replicate (a .n - (p .i + 1)) 0)) e ∙ wilds-next (a .n) (a .at) (p .out) (p .i) (c .before .before .loop-test .taken) ∙ p .inv .1)
-
-add-result : tie.Need-add-result Inv-loop μ-loop
-add-result c = omega arith
 
 returns : tie.Need-returns Inv-loop μ-loop
 returns c =
@@ -54,10 +39,10 @@ put-wilds-spec =
     Inv-loop
     μ-loop
     loop-holds
-    add-put16
-    put16-requires
-    add-i
-    loop-less
+    (λ c. omega arith)
+    (λ c κs. omega arith)
+    (λ c. omega arith)
+    (λ c. omega arith)
     loop-again
-    add-result
+    (λ c. omega arith)
     returns)

@@ -39,10 +39,6 @@ after-requires c κs =
     let h = here (a .bytes .now) (a .kinds .now) (a .counts .now) (a .arities .now) (a .starts .now) (a .fields .now) (a .from) (a .subject) (a .used) (a .nodes .now) (a .stack .now) (c .before .before .before .before .before .before .before .before .before .before .before .before .before .before .before .before .before .before .before .before .pre) (l .at) (l .t) (l .depth) (l .place) (l .stack) (l .nodes) (l .inv .0) in
     omega (arith, h .0)
 
-enum-told : tie.Need-enum-told Inv-loop μ-loop
-enum-told c =
-    search needs
-
 same-length : tie.Need-same-length Inv-loop μ-loop
 same-length c =
     c .before .before .before .before .before .before .turn .kept .1 .1 .1 .1 .1 .1 .1 .1 .0 ∙ c .before .before .before .before .before .before .before .before .before .loop .inv .1
@@ -63,10 +59,6 @@ returns c =
     let stack = u .last .1 .1 .1 .1 .1 .1 .1 .1 .0 in
     let nodes = u .last .1 .1 .1 .1 .1 .1 .1 .1 .1 .1 .0 in
     subst (λ (x : List ℕ). Simplifies (a .bytes .now) (a .from) (a .kinds .now) (a .counts .now) (a .arities .now) (a .starts .now) (a .fields .now) (a .subject) (a .used) (a .nodes .now) x nodes (l .left) (Unsuited)) (l .inv .2) (unsuited (a .bytes .now) (a .from) (a .kinds .now) (a .counts .now) (a .arities .now) (a .starts .now) (a .fields .now) (a .subject) (a .used) (a .nodes .now) (l .left) nodes Unsuited refl (wrong (a .bytes .now) (a .kinds .now) (a .counts .now) (a .arities .now) (a .starts .now) (a .fields .now) (a .from) (a .subject) (a .used) (a .nodes .now) (a .stack .now) (c .before .before .before .before .before .before .before .before .before .before .before .before .before .before .before .before .before .before .before .pre) (l .at) (l .t) (l .depth) (l .place) (l .stack) (l .nodes) (l .inv .0) stack nodes (subst (λ (x : Next). Turned (a .bytes .now) (a .kinds .now) (a .counts .now) (a .arities .now) (a .starts .now) (a .fields .now) (l .at) (l .t) (l .depth) (l .place) (l .stack) (l .nodes) stack nodes x) (c .enum-told .given .1) (u .ensures))))
-
-enum-known-next : tie.Need-enum-known-next Inv-loop μ-loop
-enum-known-next c =
-    search needs
 
 sub-count : tie.Need-sub-count Inv-loop μ-loop
 sub-count c =
@@ -130,10 +122,6 @@ returns-3 c =
     let e = c .before .before .before .before .before .before .before .before .before .before .before .before .before .turn .kept .1 .1 .1 .1 .1 .1 .1 .1 .1 .1 .0 ∙ ap length (c .before .before .before .before .before .before .before .before .before .before .before .before .before .before .before .before .loop .inv .0 .nodesAre) ∙ length-sets (c .before .before .before .before .before .before .before .before .before .before .before .before .before .before .before .before .before .before .before .before .before .before .before .before .before .before .args .nodes .now) (c .before .before .before .before .before .before .before .before .before .before .before .before .before .before .before .before .before .before .before .before .before .before .before .before .before .before .args .used) (c .before .before .before .before .before .before .before .before .before .before .before .before .before .before .before .before .loop .inv .0 .new) in
     subst (λ (x : List ℕ). Simplifies (a .bytes .now) (a .from) (a .kinds .now) (a .counts .now) (a .arities .now) (a .starts .now) (a .fields .now) (a .subject) (a .used) (a .nodes .now) x nodes (c .before .before .count-left .last .1 .1 .0) (Kept (c .before .before .before .before .before .before .before .next .given .0 .0 - a .used))) (l .inv .2) (kept (a .bytes .now) (a .from) (a .kinds .now) (a .counts .now) (a .arities .now) (a .starts .now) (a .fields .now) (a .subject) (a .used) (a .nodes .now) (l .left) nodes (c .before .before .before .before .before .before .before .next .given .0 .0 - a .used) (c .before .before .before .before .before .before .before .before .before .before .before .before .before .before .before .before .before .before .before .before .before .before .before .before .before .before .pre .nodesShort) (c .before .before .before .before .before .before .before .before .before .before .before .before .before .before .before .before .before .before .before .before .before .before .before .before .before .before .pre .room) (Kept (c .before .before .before .before .before .before .before .next .given .0 .0 - a .used)) refl (last (a .bytes .now) (a .kinds .now) (a .counts .now) (a .arities .now) (a .starts .now) (a .fields .now) (a .from) (a .subject) (a .used) (a .nodes .now) (a .stack .now) (c .before .before .before .before .before .before .before .before .before .before .before .before .before .before .before .before .before .before .before .before .before .before .before .before .before .before .pre) (l .at) (l .t) (l .depth) (l .place) (l .stack) (l .nodes) (l .inv .0) stack nodes (c .before .before .before .before .before .before .before .next .given .0 .0) (subst (λ (x : Next). Turned (a .bytes .now) (a .kinds .now) (a .counts .now) (a .arities .now) (a .starts .now) (a .fields .now) (l .at) (l .t) (l .depth) (l .place) (l .stack) (l .nodes) stack nodes x) (c .before .before .before .before .before .before .before .next .given .1) (u .ensures))) (c .before .before .count-left .last .1 .1 .0) (omega (arith, e, c .before .before .before .before .before .if1 .left)) (c .before .before .count-left .ensures))
 
-enum-known-next-2 : tie.Need-enum-known-next-2 Inv-loop μ-loop
-enum-known-next-2 c =
-    search needs
-
 loop-less : tie.Need-loop-less Inv-loop μ-loop
 loop-less c =
     let a = c .before .before .before .before .before .before .before .before .before .before .before .before .before .before .before .before .before .before .before .before .before .args in
@@ -157,12 +145,12 @@ simplify-spec =
     μ-loop
     loop-holds
     turn-requires
-    enum-told
+    (λ c. search needs)
     same-length
     same-length-2
     same-length-3
     returns
-    enum-known-next
+    (λ c. search needs)
     sub-count
     sub-if1
     same-length-4
@@ -174,7 +162,7 @@ simplify-spec =
     same-length-8
     same-length-9
     returns-3
-    enum-known-next-2
+    (λ c. search needs)
     after-requires
     loop-less
     loop-again)

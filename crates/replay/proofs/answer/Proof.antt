@@ -27,9 +27,6 @@ module _ (k n : ℕ) (l : k ≤ n) where
     whole : n ≡ length (xs ++ drop k (replicate {A = ℕ} n 0))
     whole = omega (arith, length-append xs (drop k (replicate {A = ℕ} n 0)), length-drop k (replicate {A = ℕ} n 0), length-replicate {A = ℕ} n 0, front)
 
-least-requires : tie.Need-least-requires
-least-requires c κs = tt
-
 array-borrow-prefix-file : tie.Need-array-borrow-prefix-file
 array-borrow-prefix-file c =
     among (c .least .result) 49153 (c .least .ensures .1)
@@ -38,18 +35,9 @@ slice-aggregate-read-full : tie.Need-slice-aggregate-read-full
 slice-aggregate-read-full c =
     front (c .before .least .result) 49153 (c .before .least .ensures .1)
 
-read-full-requires : tie.Need-read-full-requires
-read-full-requires c κs = tt
-
-returns : tie.Need-returns
-returns c = tt
-
 sub-skip : tie.Need-sub-skip
 sub-skip c =
     c .before .before .before .before .least .ensures .0
-
-skip-requires : tie.Need-skip-requires
-skip-requires c κs = tt
 
 array-share-prefix-file : tie.Need-array-share-prefix-file
 array-share-prefix-file c =
@@ -75,42 +63,33 @@ slice-aggregate-print-3 : tie.Need-slice-aggregate-print-3
 slice-aggregate-print-3 c =
     front (c .before .before .before .before .before .before .before .before .before .args .room) 32768 (c .before .before .before .before .before .before .before .before .before .pre .1)
 
-print-requires : tie.Need-print-requires
-print-requires c κs = tt
-
 slice-aggregate-write-first : tie.Need-slice-aggregate-write-first
 slice-aggregate-write-first c =
     whole (c .before .before .before .before .before .before .before .before .before .before .before .before .before .args .room) 32768 (c .before .before .before .before .before .before .before .before .before .before .before .before .before .pre .1) (c .before .before .before .print .last .1 .1 .0) (c .before .before .before .print .kept .1 .1 .0)
-
-least-requires-2 : tie.Need-least-requires-2
-least-requires-2 c κs = tt
 
 write-first-requires : tie.Need-write-first-requires
 write-first-requires c κs =
     written (c .before .before .before .before .before .before .before .before .before .before .before .before .before .before .args .room) 32768 (c .before .before .before .before .before .before .before .before .before .before .before .before .before .before .pre .1) (c .before .before .before .before .print .last .1 .1 .0) (c .before .before .before .before .print .kept .1 .1 .0) (c .least2 .result) (c .least2 .ensures .1)
 
-returns-2 : tie.Need-returns-2
-returns-2 c = tt
-
 pub answer-spec : {M : Type 1} → statement M
 answer-spec =
     tie.close
     (tie.spec
-    least-requires
+    (λ c κs. tt)
     array-borrow-prefix-file
     slice-aggregate-read-full
-    read-full-requires
-    returns
+    (λ c κs. tt)
+    (λ c. tt)
     sub-skip
-    skip-requires
+    (λ c κs. tt)
     array-share-prefix-file
     slice-aggregate-print
     array-borrow-prefix-scratch
     slice-aggregate-print-2
     array-borrow-prefix-report
     slice-aggregate-print-3
-    print-requires
+    (λ c κs. tt)
     slice-aggregate-write-first
-    least-requires-2
+    (λ c κs. tt)
     write-first-requires
-    returns-2)
+    (λ c. tt))

@@ -10,8 +10,5 @@ returns c = omega (arith, c .if1 .taken)
 sub-result : tie.Need-sub-result
 sub-result c = omega (arith, c .if1 .left)
 
-returns-2 : tie.Need-returns-2
-returns-2 c = refl
-
 pub wilds-spec : {M : Type 1} → statement M
-wilds-spec = tie.close (tie.spec returns sub-result returns-2)
+wilds-spec = tie.close (tie.spec returns sub-result (λ c. refl))

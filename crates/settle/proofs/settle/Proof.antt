@@ -25,17 +25,9 @@ loop-holds : tie.Need-loop-holds Inv-loop μ-loop
 loop-holds c =
     (omega arith, refl, λ bytes. settle-start bytes (c .before .before .before .args .fields .now) (opens (c .before .before .before .args .stack .now) (c .before .before .before .args .height)) (c .before .before .before .args .height - c .before .before .before .args .height) (c .before .before .before .args .from) (c .before .before .before .args .nodes .now))
 
-sub-depth : tie.Need-sub-depth Inv-loop μ-loop
-sub-depth c =
-    omega arith
-
 top-requires : tie.Need-top-requires Inv-loop μ-loop
 top-requires c κs =
     omega (arith, c .before .before .loop .inv .0)
-
-wants-requires : tie.Need-wants-requires Inv-loop μ-loop
-wants-requires c κs =
-    tt
 
 advance-requires : tie.Need-advance-requires Inv-loop μ-loop
 advance-requires c κs =
@@ -62,10 +54,6 @@ finish-requires : tie.Need-finish-requires Inv-loop μ-loop
 finish-requires c κs =
     let s = c .before .before .before .before .before .before .loop .inv .2 [] in
     omega (arith, s .few, s .atIs, c .before .before .before .before .before .before .loop .inv .0, c .before .before .before .before .before .before .before .before .before .before .pre .1)
-
-loop-less : tie.Need-loop-less Inv-loop μ-loop
-loop-less c =
-    omega arith
 
 loop-again : tie.Need-loop-again Inv-loop μ-loop
 loop-again c =
@@ -98,15 +86,15 @@ settle-spec =
     Inv-loop
     μ-loop
     loop-holds
-    sub-depth
+    (λ c. omega arith)
     top-requires
-    wants-requires
+    (λ c κs. tt)
     advance-requires
     same-length
     same-length-2
     returns
     finish-requires
-    loop-less
+    (λ c. omega arith)
     loop-again
     same-length-3
     same-length-4

@@ -24,9 +24,6 @@ round-requires c κs = c .before .before .before .before .before .before .before
 add-n : tie.Need-add-n Inv-loop μ-loop
 add-n c = omega (arith, c .before .before .before .before .before .before .before .before .pre)
 
-loop-less : tie.Need-loop-less Inv-loop μ-loop
-loop-less c = omega arith
-
 loop-again : tie.Need-loop-again Inv-loop μ-loop
 loop-again c =
     let a = c .before .before .before .before .before .before .before .before .args in
@@ -53,7 +50,7 @@ all-finite-spec =
     loop-holds
     round-requires
     add-n
-    loop-less
+    (λ c. omega arith)
     loop-again
     all-have-requires
     returns)

@@ -34,9 +34,6 @@ returns c =
 add-t : tie.Need-add-t Inv-loop μ-loop
 add-t c = omega (arith, c .before .before .before .before .before .before .before .before .before .pre)
 
-loop-less : tie.Need-loop-less Inv-loop μ-loop
-loop-less c = omega arith
-
 loop-again : tie.Need-loop-again Inv-loop μ-loop
 loop-again c =
     let a = c .before .before .before .before .before .before .before .before .before .args in
@@ -59,6 +56,6 @@ all-have-spec =
     has-value-requires
     returns
     add-t
-    loop-less
+    (λ c. omega arith)
     loop-again
     returns-2)

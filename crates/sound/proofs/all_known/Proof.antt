@@ -24,15 +24,6 @@ loop-holds c =
     let a = c .before .args in
     (omega arith, sym (ap (λ j. all (isKnown (a .t4)) (reads (a .fields .now) (places j (a .n - 0)))) (add-zero (a .from)) ∙ ap (λ j. all (isKnown (a .t4)) (reads (a .fields .now) (places (a .from) j))) (sub-zero (a .n))))
 
-add-at8 : tie.Need-add-at8 Inv-loop μ-loop
-add-at8 c = omega arith
-
-at8-requires : tie.Need-at8-requires Inv-loop μ-loop
-at8-requires c κs = tt
-
-wide8-requires : tie.Need-wide8-requires Inv-loop μ-loop
-wide8-requires c κs = tt
-
 returns : tie.Need-returns Inv-loop μ-loop
 returns c =
     let a = c .before .before .before .before .before .before .args in
@@ -41,21 +32,12 @@ returns c =
     let far : length (a .t4) ≤ getD (a .fields .now) (a .from + l .k) 0 = omega (arith, good) in
     sym (l .inv .1 ∙ all-off (isKnown (a .t4)) _ _ _ (reads-step (a .fields .now) (a .from) (l .k) (a .n) (omega arith)) (List·getD-eq-default (a .t4) false far))
 
-array-read-if2 : tie.Need-array-read-if2 Inv-loop μ-loop
-array-read-if2 c = omega arith
-
 returns-2 : tie.Need-returns-2 Inv-loop μ-loop
 returns-2 c =
     let a = c .before .before .before .before .before .before .before .args in
     let l = c .before .before .before .before .before .loop in
     let at8 = c .before .before .before .at8 in
     sym (l .inv .1 ∙ all-off (isKnown (a .t4)) _ _ _ (reads-step (a .fields .now) (a .from) (l .k) (a .n) (omega arith)) (ap (λ j. getD (a .t4) j false) (sym (c .before .before .wide8 .ensures ∙ at8 .ensures)) ∙ not-true _ (c .if2 .taken)))
-
-add-k : tie.Need-add-k Inv-loop μ-loop
-add-k c = omega arith
-
-loop-less : tie.Need-loop-less Inv-loop μ-loop
-loop-less c = omega arith
 
 loop-again : tie.Need-loop-again Inv-loop μ-loop
 loop-again c =
@@ -77,13 +59,13 @@ all-known-spec =
     Inv-loop
     μ-loop
     loop-holds
-    add-at8
-    at8-requires
-    wide8-requires
+    (λ c. omega arith)
+    (λ c κs. tt)
+    (λ c κs. tt)
     returns
-    array-read-if2
+    (λ c. omega arith)
     returns-2
-    add-k
-    loop-less
+    (λ c. omega arith)
+    (λ c. omega arith)
     loop-again
     returns-3)

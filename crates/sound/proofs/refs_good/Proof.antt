@@ -23,23 +23,11 @@ loop-holds c =
     let a = c .before .args in
     (omega arith, ap (λ k. all (λ f. ltb f (a .types)) (reads (a .fields .now) (places 0 k))) (sym (sub-zero (a .n))))
 
-at8-requires : tie.Need-at8-requires Inv-loop μ-loop
-at8-requires c κs = tt
-
-wide8-requires : tie.Need-wide8-requires Inv-loop μ-loop
-wide8-requires c κs = tt
-
 returns : tie.Need-returns Inv-loop μ-loop
 returns c =
     let a = c .before .before .before .before .before .before .args in
     let l = c .before .before .before .before .loop in
     sym (l .inv .1 ∙ all-off (λ f. ltb f (a .types)) _ _ _ (reads-next (a .fields .now) (l .i) (a .n) (omega arith)) (le-ltb (getD (a .fields .now) (l .i) 0) (a .types) (omega arith)))
-
-add-i : tie.Need-add-i Inv-loop μ-loop
-add-i c = omega arith
-
-loop-less : tie.Need-loop-less Inv-loop μ-loop
-loop-less c = omega arith
 
 loop-again : tie.Need-loop-again Inv-loop μ-loop
 loop-again c =
@@ -60,10 +48,10 @@ refs-good-spec =
     Inv-loop
     μ-loop
     loop-holds
-    at8-requires
-    wide8-requires
+    (λ c κs. tt)
+    (λ c κs. tt)
     returns
-    add-i
-    loop-less
+    (λ c. omega arith)
+    (λ c. omega arith)
     loop-again
     returns-2)

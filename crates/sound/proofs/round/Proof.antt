@@ -32,9 +32,6 @@ array-write-next c = omega (arith, c .before .before .before .before .before .be
 add-t : tie.Need-add-t Inv-loop μ-loop
 add-t c = omega (arith, c .before .before .before .before .before .before .before .before .pre)
 
-loop-less : tie.Need-loop-less Inv-loop μ-loop
-loop-less c = omega arith
-
 loop-again : tie.Need-loop-again Inv-loop μ-loop
 loop-again c =
     let a = c .before .before .before .before .before .before .before .before .args in
@@ -57,6 +54,6 @@ round-spec =
     has-value-requires
     array-write-next
     add-t
-    loop-less
+    (λ c. omega arith)
     loop-again
     returns)

@@ -18,36 +18,12 @@ Inv-loop counts arities starts fields t known n c₀ c = (c ≤ n) × (n ≡ get
 abbrev μ-loop : tie.MeasureT-loop
 μ-loop counts arities starts fields t known n c₀ c = n - c
 
-at8-requires : tie.Need-at8-requires Inv-loop μ-loop
-at8-requires c κs = tt
-
-wide8-requires : tie.Need-wide8-requires Inv-loop μ-loop
-wide8-requires c κs = tt
-
 loop-holds : tie.Need-loop-holds Inv-loop μ-loop
 loop-holds c =
     let a = c .before .before .before .before .before .before .args in
     let at8 = c .before .at8 in
     let n : c .wide8 .result ≡ getD (a .counts .now) (a .t) 0 = c .wide8 .ensures ∙ at8 .ensures in
     (omega arith, n, omega (arith, at8 .ok), sym (ap (λ k. any (fieldsKnown (a .arities .now) (a .starts .now) (a .fields .now) (a .known)) (places k (c .wide8 .result - 0))) (add-zero (32 * a .t)) ∙ ap (λ k. any (fieldsKnown (a .arities .now) (a .starts .now) (a .fields .now) (a .known)) (places (32 * a .t) k)) (sub-zero (c .wide8 .result) ∙ n)))
-
-mul-i : tie.Need-mul-i Inv-loop μ-loop
-mul-i c = omega arith
-
-add-i : tie.Need-add-i Inv-loop μ-loop
-add-i c = omega arith
-
-at16-requires : tie.Need-at16-requires Inv-loop μ-loop
-at16-requires c κs = tt
-
-wide16-requires : tie.Need-wide16-requires Inv-loop μ-loop
-wide16-requires c κs = tt
-
-at8-requires-2 : tie.Need-at8-requires-2 Inv-loop μ-loop
-at8-requires-2 c κs = tt
-
-wide8-requires-2 : tie.Need-wide8-requires-2 Inv-loop μ-loop
-wide8-requires-2 c κs = tt
 
 all-known-requires : tie.Need-all-known-requires Inv-loop μ-loop
 all-known-requires c κs = omega (arith, c .before .before .before .at16 .ok, c .before .at82 .ok)
@@ -62,12 +38,6 @@ returns c =
     let at82 = c .before .before .before .at82 in
     let k = ctor-known (a .arities .now) (a .arities .now) (a .arities .now) (a .starts .now) (a .fields .now) (a .known) (32 * a .t + l .c) _ _ (wide16 .ensures ∙ at16 .ensures) (c .before .before .wide82 .ensures ∙ at82 .ensures) in
     sym (l .inv .3 ∙ any-off (fieldsKnown (a .arities .now) (a .starts .now) (a .fields .now) (a .known)) _ _ _ (places-step (32 * a .t) (l .c) (wide8 .result) (omega arith)) (sym k ∙ sym (c .before .all-known .ensures) ∙ c .if1 .taken))
-
-add-c : tie.Need-add-c Inv-loop μ-loop
-add-c c = omega arith
-
-loop-less : tie.Need-loop-less Inv-loop μ-loop
-loop-less c = omega arith
 
 loop-again : tie.Need-loop-again Inv-loop μ-loop
 loop-again c =
@@ -92,18 +62,18 @@ some-ctor-spec =
     (tie.spec
     Inv-loop
     μ-loop
-    at8-requires
-    wide8-requires
+    (λ c κs. tt)
+    (λ c κs. tt)
     loop-holds
-    mul-i
-    add-i
-    at16-requires
-    wide16-requires
-    at8-requires-2
-    wide8-requires-2
+    (λ c. omega arith)
+    (λ c. omega arith)
+    (λ c κs. tt)
+    (λ c κs. tt)
+    (λ c κs. tt)
+    (λ c κs. tt)
     all-known-requires
     returns
-    add-c
-    loop-less
+    (λ c. omega arith)
+    (λ c. omega arith)
     loop-again
     returns-2)

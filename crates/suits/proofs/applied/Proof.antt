@@ -6,39 +6,6 @@ use borrow.Author.Needs.{needs}
 use Rattle.suits.proofs.applied.Statement.{statement}
 use Rattle.suits.proofs.applied.Tie as tie
 
-add-at8 : tie.Need-add-at8
-add-at8 c = search needs
-
-at8-requires : tie.Need-at8-requires
-at8-requires c κs = search needs
-
-wide8-requires : tie.Need-wide8-requires
-wide8-requires c κs = search needs
-
-add-at8-2 : tie.Need-add-at8-2
-add-at8-2 c = search needs
-
-at8-requires-2 : tie.Need-at8-requires-2
-at8-requires-2 c κs = search needs
-
-wide8-requires-2 : tie.Need-wide8-requires-2
-wide8-requires-2 c κs = search needs
-
-add-at8-3 : tie.Need-add-at8-3
-add-at8-3 c = search needs
-
-at8-requires-3 : tie.Need-at8-requires-3
-at8-requires-3 c κs = search needs
-
-args-requires : tie.Need-args-requires
-args-requires c κs = search needs
-
-args-requires-2 : tie.Need-args-requires-2
-args-requires-2 c κs = search needs
-
-args-requires-3 : tie.Need-args-requires-3
-args-requires-3 c κs = search needs
-
 returns : tie.Need-returns
 returns c =
     let a = c .before .before .before .before .before .before .before .args in
@@ -64,17 +31,17 @@ pub applied-spec : {M : Type 1} → statement M
 applied-spec =
     tie.close
     (tie.spec
-    add-at8
-    at8-requires
-    wide8-requires
-    add-at8-2
-    at8-requires-2
-    wide8-requires-2
-    add-at8-3
-    at8-requires-3
-    args-requires
-    args-requires-2
-    args-requires-3
+    (λ c. search needs)
+    (λ c κs. search needs)
+    (λ c κs. search needs)
+    (λ c. search needs)
+    (λ c κs. search needs)
+    (λ c κs. search needs)
+    (λ c. search needs)
+    (λ c κs. search needs)
+    (λ c κs. search needs)
+    (λ c κs. search needs)
+    (λ c κs. search needs)
     returns
     returns-2
     returns-3

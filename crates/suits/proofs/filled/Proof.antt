@@ -5,12 +5,6 @@ use borrow.Author.Needs.{needs}
 use Rattle.suits.proofs.filled.Statement.{statement}
 use Rattle.suits.proofs.filled.Tie as tie
 
-is-enough-requires : tie.Need-is-enough-requires
-is-enough-requires c κs = search needs
-
-wilds-requires : tie.Need-wilds-requires
-wilds-requires c κs = search needs
-
 returns : tie.Need-returns
 returns c =
     let a = c .before .before .before .args in
@@ -22,4 +16,4 @@ returns-2 c =
     fill-none (a .c) (a .k) (a .spread) (a .n) (sym (c .if1 .left) ∙ c .before .is-enough .ensures)
 
 pub filled-spec : {M : Type 1} → statement M
-filled-spec = tie.close (tie.spec is-enough-requires wilds-requires returns returns-2)
+filled-spec = tie.close (tie.spec (λ c κs. search needs) (λ c κs. search needs) returns returns-2)

@@ -7,25 +7,10 @@ use borrow.Author.Needs.{needs}
 use Rattle.suits.proofs.suits.Statement.{statement}
 use Rattle.suits.proofs.suits.Tie as tie
 
-at8-requires : tie.Need-at8-requires
-at8-requires c κs = search needs
-
-at8-requires-2 : tie.Need-at8-requires-2
-at8-requires-2 c κs = search needs
-
-suits-kind-requires : tie.Need-suits-kind-requires
-suits-kind-requires c κs = search needs
-
 returns : tie.Need-returns
 returns c =
     let a = c .before .before .before .before .before .before .before .before .args in
     is-unfit (a .bytes .now) (a .kinds .now) (a .counts .now) (a .arities .now) (a .at) (a .t) (c .before .before .before .at8 .result) (c .before .before .at82 .result) (c .before .suits-kind .result) (c .before .before .before .at8 .ensures) (c .before .before .at82 .ensures) (c .before .suits-kind .ensures) (not-true _ (c .if1 .taken))
-
-literal-requires : tie.Need-literal-requires
-literal-requires c κs = search needs
-
-literal-requires-2 : tie.Need-literal-requires-2
-literal-requires-2 c κs = search needs
 
 applied-requires : tie.Need-applied-requires
 applied-requires c κs =
@@ -66,12 +51,12 @@ pub suits-spec : {M : Type 1} → statement M
 suits-spec =
     tie.close
     (tie.spec
-    at8-requires
-    at8-requires-2
-    suits-kind-requires
+    (λ c κs. search needs)
+    (λ c κs. search needs)
+    (λ c κs. search needs)
     returns
-    literal-requires
-    literal-requires-2
+    (λ c κs. search needs)
+    (λ c κs. search needs)
     applied-requires
     returns-2
     returns-3

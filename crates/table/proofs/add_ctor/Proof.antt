@@ -25,9 +25,6 @@ put-parts-requires c κs = omega (arith, c .before .before .before .before .befo
 mul-i : tie.Need-mul-i
 mul-i c = omega (arith, c .before .before .before .before .before .before .pre)
 
-wide8-requires : tie.Need-wide8-requires
-wide8-requires c κs = tt
-
 add-i : tie.Need-add-i
 add-i c = omega (arith, c .before .before .before .before .before .before .before .pre, c .wide8 .ensures)
 
@@ -52,9 +49,6 @@ mul-names c = omega (arith, c .before .before .before .before .before .before .b
 element-write-names : tie.Need-element-write-names
 element-write-names c = omega (arith, c .before .before .before .before .before .before .before .before .pre, c .before .wide8 .ensures)
 
-wide8-requires-2 : tie.Need-wide8-requires-2
-wide8-requires-2 c κs = tt
-
 after-ctor-requires : tie.Need-after-ctor-requires
 after-ctor-requires c κs = omega (arith, c .before .before .before .before .before .before .before .before .before .pre, c .wide82 .ensures, c .before .before .before .put-parts .ok)
 
@@ -78,7 +72,7 @@ add-ctor-spec =
     element-write-counts
     put-parts-requires
     mul-i
-    wide8-requires
+    (λ c κs. tt)
     add-i
     element-write-arities
     cast-starts
@@ -87,6 +81,6 @@ add-ctor-spec =
     cast-names
     mul-names
     element-write-names
-    wide8-requires-2
+    (λ c κs. tt)
     after-ctor-requires
     returns)

@@ -10,9 +10,6 @@ use Rattle.table.specs.Build.{low}
 use Rattle.table.proofs.add_type.Statement.{statement}
 use Rattle.table.proofs.add_type.Tie as tie
 
-at8-requires : tie.Need-at8-requires
-at8-requires c κs = tt
-
 element-write-kinds : tie.Need-element-write-kinds
 element-write-kinds c = omega (arith, c .before .before .pre)
 
@@ -27,9 +24,6 @@ element-write-counts c = omega (arith, c .before .before .before .before .pre)
 
 mul-put-starts : tie.Need-mul-put-starts
 mul-put-starts c = omega (arith, c .before .before .before .before .before .pre)
-
-wide8-requires : tie.Need-wide8-requires
-wide8-requires c κs = tt
 
 put-starts-requires : tie.Need-put-starts-requires
 put-starts-requires c κs = omega (arith, c .before .before .before .before .before .before .pre, c .wide8 .ensures, c .before .before .put-arities .ok)
@@ -52,13 +46,13 @@ pub add-type-spec : {M : Type 1} → statement M
 add-type-spec =
     tie.close
     (tie.spec
-    at8-requires
+    (λ c κs. tt)
     element-write-kinds
     mul-put-arities
     put-arities-requires
     element-write-counts
     mul-put-starts
-    wide8-requires
+    (λ c κs. tt)
     put-starts-requires
     put-types-requires
     after-type-requires

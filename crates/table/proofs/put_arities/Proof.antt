@@ -9,10 +9,6 @@ use borrow.Author.Needs.{needs}
 use Rattle.table.proofs.put_arities.Statement.{statement}
 use Rattle.table.proofs.put_arities.Tie as tie
 
-at8-requires : tie.Need-at8-requires
-at8-requires c κs =
-    tt
-
 put-fields-requires : tie.Need-put-fields-requires
 put-fields-requires c κs =
     omega (arith, c .before .before .before .before .before .pre)
@@ -25,10 +21,6 @@ returns c =
 add-at8 : tie.Need-add-at8
 add-at8 c =
     omega (arith, c .before .before .before .before .pre)
-
-at8-requires-2 : tie.Need-at8-requires-2
-at8-requires-2 c κs =
-    tt
 
 element-write-arities : tie.Need-element-write-arities
 element-write-arities c =
@@ -57,12 +49,12 @@ pub put-arities-spec : {M : Type 1} → statement M
 put-arities-spec =
     tie.close
     (tie.spec
-    at8-requires
+    (λ c κs. tt)
     (λ c. search needs)
     put-fields-requires
     returns
     add-at8
-    at8-requires-2
+    (λ c κs. tt)
     element-write-arities
     returns-2
     element-write-arities-2

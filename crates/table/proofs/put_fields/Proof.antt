@@ -15,26 +15,10 @@ Inv-loop bytes at n fields₀ from end k₀ p₀ fields k p = (from ≤ k) × (k
 abbrev μ-loop : tie.MeasureT-loop
 μ-loop bytes at n fields₀ from end k₀ p₀ fields k p = end - k
 
-add-end : tie.Need-add-end Inv-loop μ-loop
-add-end c =
-    omega arith
-
 loop-holds : tie.Need-loop-holds Inv-loop μ-loop
 loop-holds c =
     let a = c .before .before .args in
     (omega arith, omega arith, refl, refl, run-start (λ p. getD (a .bytes .now) p 0) (a .fields .now) (a .from) (places (a .at)) (a .n))
-
-at8-requires : tie.Need-at8-requires Inv-loop μ-loop
-at8-requires c κs =
-    tt
-
-put8-requires : tie.Need-put8-requires Inv-loop μ-loop
-put8-requires c κs =
-    omega arith
-
-add-p : tie.Need-add-p Inv-loop μ-loop
-add-p c =
-    omega arith
 
 loop-less : tie.Need-loop-less Inv-loop μ-loop
 loop-less c =
@@ -63,11 +47,11 @@ put-fields-spec =
     (tie.spec
     Inv-loop
     μ-loop
-    add-end
+    (λ c. omega arith)
     loop-holds
-    at8-requires
-    put8-requires
-    add-p
+    (λ c κs. tt)
+    (λ c κs. omega arith)
+    (λ c. omega arith)
     loop-less
     loop-again
     same-length

@@ -17,38 +17,10 @@ Inv-loop bytes at n fields₀ labels₀ from end k₀ p₀ fields labels k p = (
 abbrev μ-loop : tie.MeasureT-loop
 μ-loop bytes at n fields₀ labels₀ from end k₀ p₀ fields labels k p = end - k
 
-add-end : tie.Need-add-end Inv-loop μ-loop
-add-end c =
-    omega arith
-
 loop-holds : tie.Need-loop-holds Inv-loop μ-loop
 loop-holds c =
     let a = c .before .args in
     (omega arith, omega arith, omega arith, run-start (λ p. getD (a .bytes .now) p 0) (a .fields .now) (a .from) (labelled (a .bytes .now) (a .at)) (a .n), run-start (λ p. low (p + 1)) (a .labels .now) (a .from) (labelled (a .bytes .now) (a .at)) (a .n))
-
-at8-requires : tie.Need-at8-requires Inv-loop μ-loop
-at8-requires c κs =
-    tt
-
-put8-requires : tie.Need-put8-requires Inv-loop μ-loop
-put8-requires c κs =
-    omega arith
-
-add-p : tie.Need-add-p Inv-loop μ-loop
-add-p c =
-    omega arith
-
-cast-put16 : tie.Need-cast-put16 Inv-loop μ-loop
-cast-put16 c =
-    omega arith
-
-put16-requires : tie.Need-put16-requires Inv-loop μ-loop
-put16-requires c κs =
-    omega arith
-
-after-name-requires : tie.Need-after-name-requires Inv-loop μ-loop
-after-name-requires c κs =
-    omega arith
 
 loop-less : tie.Need-loop-less Inv-loop μ-loop
 loop-less c =
@@ -75,14 +47,14 @@ put-labelled-spec =
     (tie.spec
     Inv-loop
     μ-loop
-    add-end
+    (λ c. omega arith)
     loop-holds
-    at8-requires
-    put8-requires
-    add-p
-    cast-put16
-    put16-requires
-    after-name-requires
+    (λ c κs. tt)
+    (λ c κs. omega arith)
+    (λ c. omega arith)
+    (λ c. omega arith)
+    (λ c κs. omega arith)
+    (λ c κs. omega arith)
     loop-less
     loop-again
     returns)

@@ -12,18 +12,6 @@ add-at8 : tie.Need-add-at8
 add-at8 c =
     omega (arith, c .before .before .pre, c .after-name .ensures .1)
 
-at8-requires : tie.Need-at8-requires
-at8-requires c κs =
-    tt
-
-wide8-requires : tie.Need-wide8-requires
-wide8-requires c κs =
-    tt
-
-at8-requires-2 : tie.Need-at8-requires-2
-at8-requires-2 c κs =
-    tt
-
 add-put-fields : tie.Need-add-put-fields
 add-put-fields c =
     omega (arith, c .before .before .before .before .before .before .pre, c .before .before .before .before .after-name .ensures .1)
@@ -56,9 +44,9 @@ put-parts-spec =
     (tie.spec
     after-name-requires
     add-at8
-    at8-requires
-    wide8-requires
-    at8-requires-2
+    (λ c κs. tt)
+    (λ c κs. tt)
+    (λ c κs. tt)
     add-put-fields
     put-fields-requires
     returns

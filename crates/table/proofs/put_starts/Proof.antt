@@ -15,23 +15,11 @@ Inv-loop starts₀ i n from end k₀ starts k = (i ≤ k) × (k ≤ end) × (set
 abbrev μ-loop : tie.MeasureT-loop
 μ-loop starts₀ i n from end k₀ starts k = end - k
 
-add-end : tie.Need-add-end Inv-loop μ-loop
-add-end c =
-    omega arith
-
 loop-holds : tie.Need-loop-holds Inv-loop μ-loop
 loop-holds c =
     let a = c .args in
     let e : a .i + a .n - a .i ≡ a .n = omega arith in
     (omega arith, omega arith, ap (λ m. sets (a .starts .now) (a .i) (replicate m (low (a .from)))) e)
-
-cast-put16 : tie.Need-cast-put16 Inv-loop μ-loop
-cast-put16 c =
-    omega arith
-
-put16-requires : tie.Need-put16-requires Inv-loop μ-loop
-put16-requires c κs =
-    omega arith
 
 loop-less : tie.Need-loop-less Inv-loop μ-loop
 loop-less c =
@@ -56,10 +44,10 @@ put-starts-spec =
     (tie.spec
     Inv-loop
     μ-loop
-    add-end
+    (λ c. omega arith)
     loop-holds
-    cast-put16
-    put16-requires
+    (λ c. omega arith)
+    (λ c κs. omega arith)
     loop-less
     loop-again
     returns)

@@ -10,14 +10,8 @@ use Rattle.table.proofs.Stores.{two, list-fields, tuple-fields, pair-fi
 use Rattle.table.proofs.put_types.Statement.{statement}
 use Rattle.table.proofs.put_types.Tie as tie
 
-at8-requires : tie.Need-at8-requires
-at8-requires c κs = tt
-
 add-at8 : tie.Need-add-at8
 add-at8 c = omega (arith, c .before .before .before .before .pre)
-
-at8-requires-2 : tie.Need-at8-requires-2
-at8-requires-2 c κs = tt
 
 put8-requires : tie.Need-put8-requires
 put8-requires c κs = omega (arith, c .before .before .before .before .before .pre)
@@ -41,12 +35,6 @@ add-put-fields c = omega (arith, c .before .before .before .before .pre)
 
 add-at8-2 : tie.Need-add-at8-2
 add-at8-2 c = omega (arith, c .before .before .before .before .pre)
-
-at8-requires-3 : tie.Need-at8-requires-3
-at8-requires-3 c κs = tt
-
-wide8-requires : tie.Need-wide8-requires
-wide8-requires c κs = tt
 
 put-fields-requires : tie.Need-put-fields-requires
 put-fields-requires c κs = omega (arith, c .before .before .before .before .before .before .before .pre)
@@ -79,17 +67,17 @@ pub put-types-spec : {M : Type 1} → statement M
 put-types-spec =
     tie.close
     (tie.spec
-    at8-requires
+    (λ c κs. tt)
     add-at8
-    at8-requires-2
+    (λ c κs. tt)
     put8-requires
     cast-put8
     put8-requires-2
     returns
     add-put-fields
     add-at8-2
-    at8-requires-3
-    wide8-requires
+    (λ c κs. tt)
+    (λ c κs. tt)
     put-fields-requires
     returns-2
     add-put-fields-2

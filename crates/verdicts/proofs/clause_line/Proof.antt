@@ -6,21 +6,9 @@ use Rattle.verdicts.proofs.Verdicts.{clause-law}
 use Rattle.verdicts.proofs.clause_line.Statement.{statement}
 use Rattle.verdicts.proofs.clause_line.Tie as tie
 
-slice-aggregate-numbered : tie.Need-slice-aggregate-numbered
-slice-aggregate-numbered c =
-    refl
-
 numbered-requires : tie.Need-numbered-requires
 numbered-requires c κs =
     omega (arith, c .before .before .before .pre)
-
-slice-aggregate-either : tie.Need-slice-aggregate-either
-slice-aggregate-either c =
-    refl
-
-slice-aggregate-either-2 : tie.Need-slice-aggregate-either-2
-slice-aggregate-either-2 c =
-    refl
 
 either-requires : tie.Need-either-requires
 either-requires c κs =
@@ -38,10 +26,10 @@ pub clause-line-spec : {M : Type 1} → statement M
 clause-line-spec =
     tie.close
     (tie.spec
-    slice-aggregate-numbered
+    (λ c. refl)
     numbered-requires
-    slice-aggregate-either
-    slice-aggregate-either-2
+    (λ c. refl)
+    (λ c. refl)
     either-requires
     same-length
     returns)

@@ -23,25 +23,9 @@ loop-holds : tie.Need-loop-holds Inv-loop μ-loop
 loop-holds c =
     (omega arith, (omega arith, wrote-none (c .before .before .args .out .now) (c .before .before .args .at)))
 
-add-clause-line : tie.Need-add-clause-line Inv-loop μ-loop
-add-clause-line c =
-    omega arith
-
-shared-slice-read-clause-line : tie.Need-shared-slice-read-clause-line Inv-loop μ-loop
-shared-slice-read-clause-line c =
-    omega arith
-
 clause-line-requires : tie.Need-clause-line-requires Inv-loop μ-loop
 clause-line-requires c κs =
     omega (arith, c .before .before .before .before .before .before .pre, c .before .before .before .loop .inv .0, c .before .before .before .loop .inv .1 .0)
-
-add-i : tie.Need-add-i Inv-loop μ-loop
-add-i c =
-    omega arith
-
-loop-less : tie.Need-loop-less Inv-loop μ-loop
-loop-less c =
-    omega arith
 
 loop-again : tie.Need-loop-again Inv-loop μ-loop
 loop-again c =
@@ -66,11 +50,11 @@ clause-lines-spec =
     Inv-loop
     μ-loop
     loop-holds
-    add-clause-line
-    shared-slice-read-clause-line
+    (λ c. omega arith)
+    (λ c. omega arith)
     clause-line-requires
-    add-i
-    loop-less
+    (λ c. omega arith)
+    (λ c. omega arith)
     loop-again
     same-length
     returns)

@@ -5,25 +5,13 @@ use Rattle.verdicts.proofs.Verdicts.{count-law}
 use Rattle.verdicts.proofs.count_line.Statement.{statement}
 use Rattle.verdicts.proofs.count_line.Tie as tie
 
-slice-aggregate-numbered : tie.Need-slice-aggregate-numbered
-slice-aggregate-numbered c =
-    refl
-
 numbered-requires : tie.Need-numbered-requires
 numbered-requires c κs =
     omega (arith, c .before .before .before .pre .1)
 
-slice-aggregate-numbered-2 : tie.Need-slice-aggregate-numbered-2
-slice-aggregate-numbered-2 c =
-    refl
-
 numbered-requires-2 : tie.Need-numbered-requires-2
 numbered-requires-2 c κs =
     omega (arith, c .before .before .before .before .before .before .before .before .pre .1, c .before .before .before .before .numbered .ensures .1)
-
-slice-aggregate-ended : tie.Need-slice-aggregate-ended
-slice-aggregate-ended c =
-    refl
 
 sub-ended : tie.Need-sub-ended
 sub-ended c =
@@ -45,11 +33,11 @@ pub count-line-spec : {M : Type 1} → statement M
 count-line-spec =
     tie.close
     (tie.spec
-    slice-aggregate-numbered
+    (λ c. refl)
     numbered-requires
-    slice-aggregate-numbered-2
+    (λ c. refl)
     numbered-requires-2
-    slice-aggregate-ended
+    (λ c. refl)
     sub-ended
     ended-requires
     same-length

@@ -6,10 +6,6 @@ use Rattle.verdicts.proofs.Verdicts.{count-is}
 use Rattle.verdicts.proofs.head.Statement.{statement}
 use Rattle.verdicts.proofs.head.Tie as tie
 
-yeses-requires : tie.Need-yeses-requires
-yeses-requires c κs =
-    tt
-
 count-line-requires : tie.Need-count-line-requires
 count-line-requires c κs =
     (c .before .yeses .ensures .1, omega (arith, c .before .before .before .before .pre .1))
@@ -17,10 +13,6 @@ count-line-requires c κs =
 clause-lines-requires : tie.Need-clause-lines-requires
 clause-lines-requires c κs =
     (c .before .before .before .before .before .before .before .before .pre .0, omega (arith, c .before .before .before .before .before .before .before .before .pre .0, c .before .before .before .before .before .before .before .before .pre .1, c .before .before .before .count-line .ensures .1))
-
-slice-aggregate-ended : tie.Need-slice-aggregate-ended
-slice-aggregate-ended c =
-    refl
 
 ended-requires : tie.Need-ended-requires
 ended-requires c κs =
@@ -39,10 +31,10 @@ pub head-spec : {M : Type 1} → statement M
 head-spec =
     tie.close
     (tie.spec
-    yeses-requires
+    (λ c κs. tt)
     count-line-requires
     clause-lines-requires
-    slice-aggregate-ended
+    (λ c. refl)
     ended-requires
     same-length
     returns)

@@ -21,25 +21,9 @@ loop-holds : tie.Need-loop-holds Inv-loop μ-loop
 loop-holds c =
     (omega arith, (omega arith, refl))
 
-shared-slice-read-mark : tie.Need-shared-slice-read-mark Inv-loop μ-loop
-shared-slice-read-mark c =
-    omega arith
-
-mark-requires : tie.Need-mark-requires Inv-loop μ-loop
-mark-requires c κs =
-    tt
-
 add-n : tie.Need-add-n Inv-loop μ-loop
 add-n c =
     omega (arith, c .mark .ensures .1)
-
-add-i : tie.Need-add-i Inv-loop μ-loop
-add-i c =
-    omega arith
-
-loop-less : tie.Need-loop-less Inv-loop μ-loop
-loop-less c =
-    omega arith
 
 loop-again : tie.Need-loop-again Inv-loop μ-loop
 loop-again c =
@@ -59,10 +43,10 @@ yeses-spec =
     Inv-loop
     μ-loop
     loop-holds
-    shared-slice-read-mark
-    mark-requires
+    (λ c. omega arith)
+    (λ c κs. tt)
     add-n
-    add-i
-    loop-less
+    (λ c. omega arith)
+    (λ c. omega arith)
     loop-again
     returns)

@@ -8,17 +8,9 @@ use Rattle.wording.proofs.Wording.{then-ended}
 use Rattle.wording.proofs.calls_line.Statement.{statement}
 use Rattle.wording.proofs.calls_line.Tie as tie
 
-slice-aggregate-numbered : tie.Need-slice-aggregate-numbered
-slice-aggregate-numbered c =
-    refl
-
 numbered-requires : tie.Need-numbered-requires
 numbered-requires c κs =
     omega (arith, c .before .before .before .pre)
-
-slice-aggregate-ended : tie.Need-slice-aggregate-ended
-slice-aggregate-ended c =
-    refl
 
 ended-requires : tie.Need-ended-requires
 ended-requires c κs =
@@ -36,9 +28,9 @@ pub calls-line-spec : {M : Type 1} → statement M
 calls-line-spec =
     tie.close
     (tie.spec
-    slice-aggregate-numbered
+    (λ c. refl)
     numbered-requires
-    slice-aggregate-ended
+    (λ c. refl)
     ended-requires
     same-length
     returns)

@@ -10,21 +10,9 @@ use Rattle.wording.proofs.Wording.{then-ended}
 use Rattle.wording.proofs.refusal.Statement.{statement}
 use Rattle.wording.proofs.refusal.Tie as tie
 
-slice-aggregate-numbered : tie.Need-slice-aggregate-numbered
-slice-aggregate-numbered c =
-    refl
-
-wide8-requires : tie.Need-wide8-requires
-wide8-requires c κs =
-    tt
-
 numbered-requires : tie.Need-numbered-requires
 numbered-requires c κs =
     omega (arith, c .before .before .before .before .pre)
-
-slice-aggregate-ended : tie.Need-slice-aggregate-ended
-slice-aggregate-ended c =
-    refl
 
 ended-requires : tie.Need-ended-requires
 ended-requires c κs =
@@ -42,10 +30,10 @@ pub refusal-spec : {M : Type 1} → statement M
 refusal-spec =
     tie.close
     (tie.spec
-    slice-aggregate-numbered
-    wide8-requires
+    (λ c. refl)
+    (λ c κs. tt)
     numbered-requires
-    slice-aggregate-ended
+    (λ c. refl)
     ended-requires
     same-length
     returns)

@@ -19,35 +19,11 @@ loop-holds : tie.Need-loop-holds Inv-loop μ-loop
 loop-holds c =
     (omega arith, refl)
 
-add-byte : tie.Need-add-byte Inv-loop μ-loop
-add-byte c =
-    omega arith
-
-shared-slice-read-byte : tie.Need-shared-slice-read-byte Inv-loop μ-loop
-shared-slice-read-byte c =
-    omega arith
-
-byte-requires : tie.Need-byte-requires Inv-loop μ-loop
-byte-requires c κs =
-    omega arith
-
-add-i : tie.Need-add-i Inv-loop μ-loop
-add-i c =
-    omega arith
-
-loop-less : tie.Need-loop-less Inv-loop μ-loop
-loop-less c =
-    omega arith
-
 loop-again : tie.Need-loop-again Inv-loop μ-loop
 loop-again c =
     let a = c .before .before .before .before .before .before .before .before .before .args in
     let p = c .before .before .before .before .before .before .loop in
     (omega arith, c .before .before .byte .ensures .holds ∙ ap (λ (x : List ℕ). set x (a .at + p .i) (getD (a .text .now) (p .i) 0)) (p .inv .1) ∙ sets-next (a .text .now) (a .out .now) (a .at) (p .i) (omega arith))
-
-add-result : tie.Need-add-result Inv-loop μ-loop
-add-result c =
-    omega arith
 
 same-length : tie.Need-same-length Inv-loop μ-loop
 same-length c =
@@ -66,12 +42,12 @@ all-spec =
     Inv-loop
     μ-loop
     loop-holds
-    add-byte
-    shared-slice-read-byte
-    byte-requires
-    add-i
-    loop-less
+    (λ c. omega arith)
+    (λ c. omega arith)
+    (λ c κs. omega arith)
+    (λ c. omega arith)
+    (λ c. omega arith)
     loop-again
-    add-result
+    (λ c. omega arith)
     same-length
     returns)

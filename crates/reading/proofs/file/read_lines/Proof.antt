@@ -25,15 +25,9 @@ abbrev μ-loop : tie.MeasureT-loop
 line-read : (c : tie.After-known-told Inv-loop μ-loop) → TakenLine (c .before .before .before .before .before .before .before .before .before .before .before .before .before .before .args .file .now) (c .before .before .before .before .before .before .before .before .loop .i) (c .before .before .before .before .before .before .before .before .loop .bytes) (c .before .before .before .before .before .before .before .before .loop .at) (c .before .l .given .0 .0) (c .before .l .given .0 .1 .0) (c .before .before .before .before .before .read-line .last .1 .1 .0)
 line-read c = taken (c .before .before .before .before .before .before .before .before .before .before .before .before .before .before .args .file .now) (c .before .before .before .before .before .before .before .before .loop .i) (c .before .before .before .before .before .before .before .before .loop .bytes) (c .before .before .before .before .before .before .before .before .loop .at) (c .before .before .before .before .before .read-line .result) (c .before .before .before .before .before .read-line .last .1 .1 .0) (c .before .before .before .before .before .read-line .ensures) (c .before .l .given .0 .0) (c .before .l .given .0 .1 .0) (c .before .l .given .1)
 
-is-long-requires : tie.Need-is-long-requires Inv-loop μ-loop
-is-long-requires c κs = search needs
-
 returns : tie.Need-returns Inv-loop μ-loop
 returns c =
     saysFault (file-long (c .before .before .before .before .args .file .now) (ltb-true 49152 (length (c .before .before .before .before .args .file .now)) (sym (c .before .is-long .ensures) ∙ c .if1 .taken)))
-
-start-requires : tie.Need-start-requires Inv-loop μ-loop
-start-requires c κs = search needs
 
 loop-holds : tie.Need-loop-holds Inv-loop μ-loop
 loop-holds c =
@@ -43,12 +37,6 @@ loop-holds c =
 read-line-requires : tie.Need-read-line-requires Inv-loop μ-loop
 read-line-requires c κs =
     (c .before .loop-test .taken, (c .before .before .loop .inv .0 .packed, c .before .before .loop .inv .1 .1))
-
-enum-known-l : tie.Need-enum-known-l Inv-loop μ-loop
-enum-known-l c = search needs
-
-enum-told : tie.Need-enum-told Inv-loop μ-loop
-enum-told c = search needs
 
 same-length : tie.Need-same-length Inv-loop μ-loop
 same-length c =
@@ -70,9 +58,6 @@ enter-line-requires : tie.Need-enter-line-requires Inv-loop μ-loop
 enter-line-requires c κs =
     (record { state = c .before .before .before .before .before .before .before .before .before .before .before .before .before .before .before .before .before .before .before .loop .inv .0 .state; says = line-says (c .before .before .before .before .before .before .before .before .before .before .before .before .before .before .before .before .before .before .before .loop .inv .0) (c .before .before .before .before .before .before .before .before .before .before .before .before .before .before .before .before .before .before .before .loop .bytes) (c .before .before .before .before .before .before .before .before .before .before .before .before .before .before .before .before .read-line .last .1 .1 .0) (c .before .before .before .before .before .before .before .before .before .before .before .before .l .given .0 .0) (c .before .before .before .before .before .before .before .before .before .before .before .before .l .given .0 .1 .0) (line-read (c .before .before .before .before .before .before .before .before .before .before .before)) refl (c .before .before .before .before .before .before .before .before .before .before .before .before .before .before .before .before .before .before .before .loop .inv .1 .1) }, line-asks (c .before .before .before .before .before .before .before .before .before .before .before .before .before .before .before .before .before .before .before .loop .inv .0) (c .before .before .before .before .before .before .before .before .before .before .before .before .before .before .before .before .before .before .before .loop .bytes) (c .before .before .before .before .before .before .before .before .before .before .before .before .before .before .before .before .read-line .last .1 .1 .0) (c .before .before .before .before .before .before .before .before .before .before .before .before .l .given .0 .0) (c .before .before .before .before .before .before .before .before .before .before .before .before .l .given .0 .1 .0) (line-read (c .before .before .before .before .before .before .before .before .before .before .before)) refl (c .before .before .before .before .before .before .before .before .before .before .before .before .before .before .before .before .before .before .before .loop .inv .1 .1))
 
-enum-known-r : tie.Need-enum-known-r Inv-loop μ-loop
-enum-known-r c = search needs
-
 same-length-2 : tie.Need-same-length-2 Inv-loop μ-loop
 same-length-2 c =
     c .before .before .before .before .before .before .before .before .before .before .before .before .before .before .before .before .before .before .before .before .read-line .kept .1 .1 .0 ∙ c .before .before .before .before .before .before .before .before .before .before .before .before .before .before .before .before .before .before .before .before .before .before .before .loop .inv .1 .0
@@ -81,9 +66,6 @@ returns-3 : tie.Need-returns-3 Inv-loop μ-loop
 returns-3 c =
     let w = line-says (c .before .before .before .before .before .before .before .before .before .before .before .before .before .before .before .before .before .before .before .before .before .before .before .loop .inv .0) (c .before .before .before .before .before .before .before .before .before .before .before .before .before .before .before .before .before .before .before .before .before .before .before .loop .bytes) (c .before .before .before .before .before .before .before .before .before .before .before .before .before .before .before .before .before .before .before .before .read-line .last .1 .1 .0) (c .before .before .before .before .before .before .before .before .before .before .before .before .before .before .before .before .l .given .0 .0) (c .before .before .before .before .before .before .before .before .before .before .before .before .before .before .before .before .l .given .0 .1 .0) (line-read (c .before .before .before .before .before .before .before .before .before .before .before .before .before .before .before)) refl (c .before .before .before .before .before .before .before .before .before .before .before .before .before .before .before .before .before .before .before .before .before .before .before .loop .inv .1 .1) in
     saysFault (line-stops (c .before .before .before .before .before .before .before .before .before .before .before .before .before .before .before .before .before .before .before .before .before .before .before .loop .inv .0) (c .before .before .before .before .before .before .before .before .before .before .before .before .before .before .before .before .before .before .before .before .before .before .before .loop .bytes) (c .before .before .before .before .before .before .before .before .before .before .before .before .before .before .before .before .before .before .before .before .read-line .last .1 .1 .0) (c .before .before .before .before .before .before .before .before .before .before .before .before .before .before .before .before .l .given .0 .0) (c .before .before .before .before .before .before .before .before .before .before .before .before .before .before .before .before .l .given .0 .1 .0) (line-read (c .before .before .before .before .before .before .before .before .before .before .before .before .before .before .before)) refl (c .before .before .before .before .before .before .before .before .before .before .before .before .before .before .before .before .before .before .before .before .before .before .before .loop .inv .1 .1) (c .before .before .before .enter-line .result) {h′ = held (take (c .before .before .before .before .before .before .before .before .before .before .before .before .before .before .before .before .l .given .0 .1 .0) (c .before .before .before .before .before .before .before .before .before .before .before .before .before .before .before .before .before .before .before .before .read-line .last .1 .1 .0)) (c .before .before .before .enter-line .last .1 .1 .1 .0) (c .before .before .before .enter-line .last .1 .1 .1 .1 .0) (c .before .before .before .enter-line .last .1 .1 .1 .1 .1 .0) (c .before .before .before .enter-line .last .1 .1 .1 .1 .1 .1 .0) (c .before .before .before .enter-line .last .1 .1 .1 .1 .1 .1 .1 .0) (c .before .before .before .enter-line .last .1 .1 .1 .1 .1 .1 .1 .1 .0) (c .before .before .before .enter-line .last .1 .1 .1 .1 .1 .1 .1 .1 .1 .0) (c .before .before .before .enter-line .last .1 .1 .1 .1 .1 .1 .1 .1 .1 .1 .0) (c .before .before .before .enter-line .last .1 .1 .1 .1 .1 .1 .1 .1 .1 .1 .1 .0) (c .before .before .before .enter-line .last .1 .1 .1 .1 .1 .1 .1 .1 .1 .1 .1 .1 .0)} (c .before .before .before .enter-line .ensures (c .before .before .before .before .before .before .before .before .before .before .before .before .before .before .before .before .before .before .before .before .before .before .before .loop .inv .0 .state) w) (c .before .r .given .0 .0) (c .before .r .given .1))
-
-enum-known-r-2 : tie.Need-enum-known-r-2 Inv-loop μ-loop
-enum-known-r-2 c = search needs
 
 add-k : tie.Need-add-k Inv-loop μ-loop
 add-k c =
@@ -99,9 +81,6 @@ loop-again c =
     let kept = c .before .before .before .before .before .before .before .before .before .before .before .before .before .before .before .before .before .before .before .before .read-line .kept .1 .1 .0 in
     (line-goes (c .before .before .before .before .before .before .before .before .before .before .before .before .before .before .before .before .before .before .before .before .before .before .before .loop .inv .0) (c .before .before .before .before .before .before .before .before .before .before .before .before .before .before .before .before .before .before .before .before .before .before .before .loop .bytes) (c .before .before .before .before .before .before .before .before .before .before .before .before .before .before .before .before .before .before .before .before .read-line .last .1 .1 .0) (c .before .before .before .before .before .before .before .before .before .before .before .before .before .before .before .before .l .given .0 .0) (c .before .before .before .before .before .before .before .before .before .before .before .before .before .before .before .before .l .given .0 .1 .0) (line-read (c .before .before .before .before .before .before .before .before .before .before .before .before .before .before .before)) refl (c .before .before .before .before .before .before .before .before .before .before .before .before .before .before .before .before .before .before .before .before .before .before .before .loop .inv .1 .1) (c .before .before .before .enter-line .result) {h′ = held (take (c .before .before .before .before .before .before .before .before .before .before .before .before .before .before .before .before .l .given .0 .1 .0) (c .before .before .before .before .before .before .before .before .before .before .before .before .before .before .before .before .before .before .before .before .read-line .last .1 .1 .0)) (c .before .before .before .enter-line .last .1 .1 .1 .0) (c .before .before .before .enter-line .last .1 .1 .1 .1 .0) (c .before .before .before .enter-line .last .1 .1 .1 .1 .1 .0) (c .before .before .before .enter-line .last .1 .1 .1 .1 .1 .1 .0) (c .before .before .before .enter-line .last .1 .1 .1 .1 .1 .1 .1 .0) (c .before .before .before .enter-line .last .1 .1 .1 .1 .1 .1 .1 .1 .0) (c .before .before .before .enter-line .last .1 .1 .1 .1 .1 .1 .1 .1 .1 .0) (c .before .before .before .enter-line .last .1 .1 .1 .1 .1 .1 .1 .1 .1 .1 .0) (c .before .before .before .enter-line .last .1 .1 .1 .1 .1 .1 .1 .1 .1 .1 .1 .0) (c .before .before .before .enter-line .last .1 .1 .1 .1 .1 .1 .1 .1 .1 .1 .1 .1 .0)} (c .before .before .before .enter-line .ensures (c .before .before .before .before .before .before .before .before .before .before .before .before .before .before .before .before .before .before .before .before .before .before .before .loop .inv .0 .state) w) (c .before .r2 .given .0 .0) (c .before .r2 .given .1), (kept ∙ c .before .before .before .before .before .before .before .before .before .before .before .before .before .before .before .before .before .before .before .before .before .before .before .loop .inv .1 .0, subst (λ (n : ℕ). length (c .before .before .before .before .before .before .before .before .before .before .before .before .before .before .before .before .before .before .before .before .before .before .before .before .before .before .before .before .before .args .file .now) ≤ 2 * n) (sym kept) (c .before .before .before .before .before .before .before .before .before .before .before .before .before .before .before .before .before .before .before .before .before .before .before .loop .inv .1 .1)))
 
-ended-requires : tie.Need-ended-requires Inv-loop μ-loop
-ended-requires c κs = search needs
-
 same-length-3 : tie.Need-same-length-3 Inv-loop μ-loop
 same-length-3 c =
     c .before .before .loop .inv .1 .0
@@ -116,25 +95,25 @@ read-lines-spec =
     (tie.spec
     Inv-loop
     μ-loop
-    is-long-requires
+    (λ c κs. search needs)
     returns
-    start-requires
+    (λ c κs. search needs)
     loop-holds
     read-line-requires
-    enum-known-l
-    enum-told
+    (λ c. search needs)
+    (λ c. search needs)
     same-length
     returns-2
     slice-reshare-prefix-enter-line
     slice-aggregate-enter-line
     enter-line-requires
-    enum-known-r
+    (λ c. search needs)
     same-length-2
     returns-3
-    enum-known-r-2
+    (λ c. search needs)
     add-k
     loop-less
     loop-again
-    ended-requires
+    (λ c κs. search needs)
     same-length-3
     returns-4)

@@ -22,14 +22,6 @@ gap-line-requires : tie.Need-gap-line-requires Inv-loop μ-loop
 gap-line-requires c κs =
     omega (arith, c .before .before .before .before .before .before .before .before .before .before .before .pre, c .before .before .loop .inv)
 
-add-i : tie.Need-add-i Inv-loop μ-loop
-add-i c =
-    omega arith
-
-loop-less : tie.Need-loop-less Inv-loop μ-loop
-loop-less c =
-    omega arith
-
 loop-again : tie.Need-loop-again Inv-loop μ-loop
 loop-again c =
     let p = c .before .before .before .before .before .loop in
@@ -60,8 +52,8 @@ gap-lines-spec =
     μ-loop
     loop-holds
     gap-line-requires
-    add-i
-    loop-less
+    (λ c. omega arith)
+    (λ c. omega arith)
     loop-again
     same-length
     returns)

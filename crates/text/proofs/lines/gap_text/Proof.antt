@@ -5,14 +5,6 @@ use Rattle.text.proofs.Gaps.{text-printed}
 use Rattle.text.proofs.lines.gap_text.Statement.{statement}
 use Rattle.text.proofs.lines.gap_text.Tie as tie
 
-slice-aggregate-either : tie.Need-slice-aggregate-either
-slice-aggregate-either c =
-    refl
-
-slice-aggregate-either-2 : tie.Need-slice-aggregate-either-2
-slice-aggregate-either-2 c =
-    refl
-
 either-requires : tie.Need-either-requires
 either-requires c κs =
     let pre = c .before .before .before .before .before .before .before .before .before .before .before .pre in
@@ -36,4 +28,4 @@ returns c =
 
 pub gap-text-spec : {M : Type 1} → statement M
 gap-text-spec =
-    tie.close (tie.spec slice-aggregate-either slice-aggregate-either-2 either-requires pretty-requires byte-requires same-length returns)
+    tie.close (tie.spec (λ c. refl) (λ c. refl) either-requires pretty-requires byte-requires same-length returns)
