@@ -2,7 +2,6 @@
 use borrow.Author.Tests.{not-true, not-false}
 use Rattle.hex.proofs.Hexadecimal.{end-most, line-refused, line-taken, line-good, line-hex, length-part}
 use native.Mathlib.Omega.{arith}
-use borrow.Author.Needs.{needs}
 use Rattle.hex.proofs.read_line.Statement.{statement}
 use Rattle.hex.proofs.read_line.Tie as tie
 

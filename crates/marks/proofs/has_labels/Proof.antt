@@ -1,6 +1,6 @@
 -- `has_labels` meets its contract: the code's test is the definition's.
 use mathlib.Core.Path.{ap, _∙_}
-use mathlib.Core.Bool.{Bool, not}
+use mathlib.Core.Bool.{not}
 use Prim.Native.Nat.{ℕ}
 use lib.Dec.{eqb}
 use lib.ListN.{getD}

@@ -1,5 +1,5 @@
 -- `put_mark` meets its contract: nothing, or the label.
-use mathlib.Core.Path.{refl, ap, ap₂, sym, _∙_}
+use mathlib.Core.Path.{ap, sym, _∙_}
 use mathlib.Core.Bool.{Bool, true}
 use Prim.Native.Nat.{ℕ}
 use native.Mathlib.Omega.{arith}

@@ -1,5 +1,5 @@
 -- `pretty` and `pretty_tail`, with the functions between them, meet their contracts. Each call is on fewer nodes, or a step of the same node: 2,048 for each node that is left.
-use mathlib.Core.Path.{refl, ap, sym, _∙_}
+use mathlib.Core.Path.{ap, sym, _∙_}
 use Prim.Native.Nat.{_+_, _-_, _*_}
 use native.Mathlib.Omega.{arith}
 use borrow.Author.Needs.{needs}
