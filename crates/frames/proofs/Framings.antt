@@ -6,7 +6,7 @@ use lib.ListN.{length, getD}
 use denote.Ref.{RefT, now}
 use Rattle.scope.specs.Frames as scope
 use Rattle.fields.specs.Places.{readAt}
-use Rattle.shape.specs.Wholes.{whole}
+use Rattle.frames.specs.Wholes.{whole}
 use Rattle.frames.specs.Lines.{frameOf}
 use Rattle.fields.specs.declared.Read.{Read}
 use Rattle.frames.specs.declared.Framed.{Framed}

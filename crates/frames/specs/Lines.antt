@@ -4,7 +4,7 @@ use Prim.Native.Nat.{ℕ}
 use lib.ListN.{getD}
 use Rattle.scope.specs.Frames as scope
 use Rattle.fields.specs.Places.{readAt}
-use Rattle.shape.specs.Wholes.{whole}
+use Rattle.frames.specs.Wholes.{whole}
 use Rattle.frames.specs.declared.Framed.{Framed}
 
 -- the frame that a line holds: its kind, and what a reader that begins after the kind reaches

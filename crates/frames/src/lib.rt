@@ -1,14 +1,17 @@
-// One reader standing over a line: a frame's bytes are read through it.
+// One reader standing over a line: a frame's bytes are read through it. Its shape, and the tests of it before what it adds.
 ghost use mathlib.Core.Path.{_≡_};
 ghost use Prim.Native.Nat.{_+_, _≤_, _<_};
 ghost use lib.ListN.{length, getD};
 ghost use Rattle.scope.specs.Frames.{frame};
 ghost use Rattle.fields.specs.Places.{readAt};
-ghost use Rattle.shape.specs.Wholes.{whole};
+ghost use Rattle.frames.specs.Wholes.{whole};
 ghost use Rattle.frames.specs.Lines.{frameOf};
+use crate::shape::frame;
 use cells::at8;
 use fields::Read;
-use shape::frame;
+
+pub mod admitting;
+pub mod shape;
 
 // The line's bytes, and a place in them.
 pub struct Reader<'a> {

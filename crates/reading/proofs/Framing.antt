@@ -17,7 +17,7 @@ use Rattle.table.specs.Build.{EndsInData}
 use Rattle.table.proofs.CtorMeans.{last-type, last-declared}
 use Rattle.order.specs.declared.State.{State}
 use Rattle.order.specs.Phases.{standsIn, roomIn}
-use Rattle.admitting.specs.Checked.{checked}
+use Rattle.frames.specs.Checked.{checked}
 use Rattle.reading.specs.Said.{Held, InPhase, Says}
 
 -- what stands in which phase

@@ -17,10 +17,10 @@ use Rattle.order.specs.declared.State.{State}
 use Rattle.order.specs.Phases.{roomIn}
 use Rattle.reading.specs.declared.line.Step.{Step}
 use Rattle.reading.specs.declared.line.Step.the-variants.{On, Refused}
-use Rattle.admitting.specs.declared.Kind.{Kind}
-use Rattle.admitting.specs.declared.Kind as kind
-use Rattle.admitting.specs.Checked.{checked, kindOf}
-use Rattle.admitting.proofs.Checks.{begins}
+use Rattle.frames.specs.declared.admitting.Kind.{Kind}
+use Rattle.frames.specs.declared.admitting.Kind as kind
+use Rattle.frames.specs.Checked.{checked, kindOf}
+use Rattle.frames.proofs.Checks.{begins}
 use Rattle.reading.specs.Said.{Held, held, Says, Stepped, stops}
 use Rattle.reading.specs.Enters.{EntersCtor, EntersSubject, EntersClause, ForClause, EntersUse, aSubject, aClause, Ended}
 use Rattle.reading.proofs.Framing.{Passed, passed, type-frame, constructor-frame, subject-frame, clause-frame, end-frame, byte-is, framed-is, above, some-type, last-is, sound-clause, sound-end}

@@ -1,8 +1,8 @@
 // One line's bytes: its tests (4, 5, 6), then what the frame adds: 7, 8, 9.
-use admitting::Kind;
-use admitting::kind_of;
 use cells::at8;
 use cells::wide8;
+use frames::admitting::Kind;
+use frames::admitting::kind_of;
 use fresh::is_fresh;
 use order::State;
 use order::has_nodes;

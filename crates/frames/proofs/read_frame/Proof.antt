@@ -39,7 +39,7 @@ use denote.Exit.{yes}
 use denote.Triple.Clauses.{ensured, lasts}
 use Rattle.scope.specs.Frames as scope
 use Rattle.fields.specs.Places.{readAt}
-use Rattle.shape.specs.Wholes.{whole}
+use Rattle.frames.specs.Wholes.{whole}
 use Rattle.frames.specs.Lines.{frameOf}
 use Rattle.fields.specs.declared.Read.{Read}
 use Rattle.frames.specs.declared.Framed.{Framed}

@@ -38,17 +38,17 @@ use denote.Exit.{yes}
 use denote.Triple.Clauses.{ensured, lasts}
 use Rattle.scope.specs.Frames as scope
 use Rattle.fields.specs.Places.{readAt}
-use Rattle.shape.specs.Wholes.{whole}
+use Rattle.frames.specs.Wholes.{whole}
 use Rattle.fields.specs.declared.Read.{Read}
 use Rattle.frames.specs.declared.Reader.{Reader}
 use Rattle.frames.proofs.Standing.{B, D, L, mach, lineVal, Own, LineOwn, line-of, needs-both, says-both}
 use Rattle.frames.proofs.Reader.Laws as T′
 use Rattle.fields.proofs.Read as S
 use Rattle.fields.proofs.Read.Laws as S′
-use Rattle.shape.proofs.frame as shape
-use Rattle.shape.proofs.frame.Symbol as shape-def
-use Rattle.shape.proofs.frame.Symbol.{name as #frame}
-use Rattle.shape.proofs.frame.Met as shape-thm
+use Rattle.frames.proofs.shape.frame as shape
+use Rattle.frames.proofs.shape.frame.Symbol as shape-def
+use Rattle.frames.proofs.shape.frame.Symbol.{name as #frame}
+use Rattle.frames.proofs.shape.frame.Met as shape-thm
 use Rattle.frames.proofs.Reader.rest.Key.{name as #rest}
 use Rattle.frames.proofs.Reader.rest as rest
 use Rattle.frames.proofs.Reader.rest.Statement as stated
@@ -133,4 +133,4 @@ rest-spec 𝓤 H 𝓜 𝓖 𝓡 =
     entered 𝓤 H (tripleOf 𝓤 H (𝓖 .A) rest.signature (rest.spec 𝓤 H (𝓖 .A) (𝓜 .mem) (𝓡 .run)))
     (tables 𝓤 H 𝓜 𝓡 code.env .C) (tables 𝓤 H 𝓜 𝓡 code.env .Λ) #rest code.function (code.unfolded 𝓤 H 𝓜 𝓡)
     (rest-meets 𝓤 H (𝓖 .A) (givenOf 𝓤 H 𝓜 𝓖) (𝓜 .mem) (𝓡 .run) (tablesOf 𝓤 H 𝓜 (tables 𝓤 H 𝓜 𝓡 code.env))
-    (cited 𝓤 H (Frame 𝓤 H (𝓖 .A) (𝓜 .mem) (𝓡 .run)) 𝓜 𝓡 code.env #frame shape-def.routine code.calls-shape·frame (shape-thm.met 𝓤 H 𝓜 𝓖 𝓡)))
+    (cited 𝓤 H (Frame 𝓤 H (𝓖 .A) (𝓜 .mem) (𝓡 .run)) 𝓜 𝓡 code.env #frame shape-def.routine code.calls-frames·shape·frame (shape-thm.met 𝓤 H 𝓜 𝓖 𝓡)))

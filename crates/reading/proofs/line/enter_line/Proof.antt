@@ -4,7 +4,7 @@ use native.Mathlib.Omega.{arith}
 use lib.ListN.{getD, drop}
 use Rattle.scope.specs.Frames.{Frame}
 use Rattle.scope.specs.Blocks.{ok}
-use Rattle.admitting.specs.Checked.{checked}
+use Rattle.frames.specs.Checked.{checked}
 use Rattle.reading.specs.declared.line.Step.the-variants.{On, Refused}
 use Rattle.reading.specs.Enters.{stale, fresh}
 use Rattle.reading.proofs.Stepping.{as-kind, as-refused, few-types, few-fields, type-asks, ctor-asks, use-asks, line-refused, type-line, ctor-line, use-line, end-line}

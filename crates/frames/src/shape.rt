@@ -4,7 +4,7 @@ ghost use Prim.Native.Nat.{_≤_};
 ghost use lib.ListN.{length};
 ghost use Rattle.scope.specs.Frames.{frame};
 ghost use Rattle.fields.specs.Places.{readAt};
-ghost use Rattle.shape.specs.Wholes.{whole};
+ghost use Rattle.frames.specs.Wholes.{whole};
 use clause::patterns;
 use declarations::constructor_frame;
 use declarations::type_frame;

@@ -1,11 +1,11 @@
--- `shape::frame` meets its contract: no fault, and no bytes over.
+-- `frame` meets its contract: no fault, and no bytes over.
 use Rattle.scope.specs.Frames.{frame}
 use lib.ListN.{length, drop}
 use Rattle.fields.proofs.Readers.{Reached, reached}
-use Rattle.shape.proofs.Wholes.{frame-keeps, whole-fault, whole-over, whole-done}
+use Rattle.frames.proofs.Wholes.{frame-keeps, whole-fault, whole-over, whole-done}
 use borrow.Author.Needs.{needs}
-use Rattle.shape.proofs.frame.Statement.{statement}
-use Rattle.shape.proofs.frame.Tie as tie
+use Rattle.frames.proofs.shape.frame.Statement.{statement}
+use Rattle.frames.proofs.shape.frame.Tie as tie
 
 frame-read : (c : tie.After-r) → Reached (frame (c .before .before .before .before .args .kind)) (c .before .before .before .before .args .bytes .now) (c .before .before .before .before .args .at) (c .r .given .0 .0)
 frame-read c =

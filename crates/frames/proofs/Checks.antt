@@ -13,14 +13,14 @@ use Rattle.scope.specs.Frames.{isKind, frame}
 use Rattle.scope.specs.Blocks.{refuse, wholly}
 use Rattle.fields.specs.declared.Read.the-variants.{At, Fault}
 use Rattle.fields.specs.Places.{placed, readAt}
-use Rattle.shape.specs.Wholes.{whole}
-use Rattle.shape.proofs.Wholes.{whole-ok, whole-refused}
+use Rattle.frames.specs.Wholes.{whole}
+use Rattle.frames.proofs.Wholes.{whole-ok, whole-refused}
 use Rattle.frames.specs.declared.Framed.{Framed}
 use Rattle.frames.specs.Lines.{frameOf}
 use Rattle.order.specs.declared.State.{State}
 use Rattle.order.specs.Phases.{standsIn, roomIn}
-use Rattle.admitting.specs.declared.Kind.the-variants.{Is, Refused}
-use Rattle.admitting.specs.Checked.{checked, kindOf}
+use Rattle.frames.specs.declared.admitting.Kind.the-variants.{Is, Refused}
+use Rattle.frames.specs.Checked.{checked, kindOf}
 
 -- a line begins with its kind
 pub begins : (bytes : List ℕ) (at k : ℕ) → at < length bytes → k ≡ getD bytes at 0 → drop at bytes ≡ k ∷ drop (at + 1) bytes

@@ -1,12 +1,12 @@
--- `shape::held` meets its contract, by the kind.
+-- `held` meets its contract, by the kind.
 use Prim.Native.Nat.{ℕ}
 use mathlib.Core.Path.{sym, ap, _∙_}
 use Rattle.scope.specs.Frames.{frame}
 use Rattle.fields.specs.Places.{readAt}
-use Rattle.shape.proofs.Wholes.{held-type, held-constructor, held-subject, held-clause, held-end, held-none}
+use Rattle.frames.proofs.Wholes.{held-type, held-constructor, held-subject, held-clause, held-end, held-none}
 use native.Mathlib.Omega.{arith}
-use Rattle.shape.proofs.held.Statement.{statement}
-use Rattle.shape.proofs.held.Tie as tie
+use Rattle.frames.proofs.shape.held.Statement.{statement}
+use Rattle.frames.proofs.shape.held.Tie as tie
 
 type-frame-requires : tie.Need-type-frame-requires
 type-frame-requires c κs =

@@ -1,13 +1,13 @@
 // A line's frame, before what it adds: unknown kind (4), 5, 6, the rest of 4.
+use crate::read_frame;
 use fields::Read;
-use frames::read_frame;
 use order::State;
 use order::has_room;
 use order::stands;
 ghost use mathlib.Core.Path.{_≡_};
 ghost use Prim.Native.Nat.{_<_, _≤_};
 ghost use lib.ListN.{length, getD, drop};
-ghost use Rattle.admitting.specs.Checked.{checked, kindOf};
+ghost use Rattle.frames.specs.Checked.{checked, kindOf};
 
 pub enum Kind {
     Is(u8),

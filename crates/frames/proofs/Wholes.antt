@@ -10,7 +10,7 @@ use Rattle.scope.specs.Blocks.{ok, refuse, wholly}
 use Rattle.fields.specs.declared.Read.{Read}
 use Rattle.fields.specs.declared.Read.the-variants.{At, Fault}
 use Rattle.fields.specs.Places.{placed, readAt}
-use Rattle.shape.specs.Wholes.{whole}
+use Rattle.frames.specs.Wholes.{whole}
 use Rattle.fields.proofs.Readers.{Keeps, give-keeps, fault-keeps, byte-keeps, bind-keeps, give-stays, place-back, found-at, fault-at, Reached}
 use Rattle.declarations.proofs.Shapes.{type-keeps, constructor-keeps}
 use Rattle.clause.proofs.Written.{patterns-keep}

@@ -5,8 +5,8 @@ use Rattle.scope.specs.Frames.{Frame, isKind, frame}
 use Rattle.scope.specs.Blocks.{Step, ok, refuse, need, wholly, _>>=_}
 use Rattle.order.specs.declared.State.{State}
 use Rattle.order.specs.Phases.{standsIn, roomIn}
-use Rattle.admitting.specs.declared.Kind.{Kind}
-use Rattle.admitting.specs.declared.Kind.the-variants.{Is, Refused}
+use Rattle.frames.specs.declared.admitting.Kind.{Kind}
+use Rattle.frames.specs.declared.admitting.Kind.the-variants.{Is, Refused}
 
 -- a line's frame: unknown kind (4), 5, 6, the rest of 4
 unfoldable pub checked : State → ℕ → List ℕ → Step Frame

@@ -1,10 +1,10 @@
--- `admitting::kind_of` meets its contract: the tests come in document 01's order.
+-- `kind_of` meets its contract: the tests come in document 01's order.
 use mathlib.Core.Path.{sym, _∙_}
 use borrow.Author.Tests.{not-true, not-false}
-use Rattle.admitting.proofs.Checks.{kind-zero, kind-over, out-of-place, too-many, not-whole, whole-frame}
+use Rattle.frames.proofs.Checks.{kind-zero, kind-over, out-of-place, too-many, not-whole, whole-frame}
 use borrow.Author.Needs.{needs}
-use Rattle.admitting.proofs.kind_of.Statement.{statement}
-use Rattle.admitting.proofs.kind_of.Tie as tie
+use Rattle.frames.proofs.admitting.kind_of.Statement.{statement}
+use Rattle.frames.proofs.admitting.kind_of.Tie as tie
 
 returns : tie.Need-returns
 returns c =

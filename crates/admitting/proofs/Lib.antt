@@ -1,2 +1,0 @@
--- The tests of a line's frame, branch by branch.
-pub mod Checks

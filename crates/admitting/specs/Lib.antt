@@ -1,2 +1,0 @@
--- The tests of a line's frame before what it adds.
-pub mod Checked

@@ -1,2 +1,0 @@
--- Laws of a whole frame.
-pub mod Wholes

@@ -1,2 +1,0 @@
--- What the contracts of this crate say: a whole frame.
-pub mod Wholes
