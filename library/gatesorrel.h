@@ -20,8 +20,8 @@
 
    The caller keeps to this: each pointer points to as many elements as the length after it says, aligned for them, also where that is
    0 (any aligned pointer that is not null will do then); file, scratch, report, line and length do not overlap; nothing else writes to them during
-   the call. The function keeps no pointer, allocates nothing, and takes stack: 3 MiB at the
-   most that was measured, under 6 MiB by an argument that is not proved (docs/CAMPAIGN.md). */
+   the call. The function keeps no pointer, allocates nothing, and takes stack: 2.3 MiB at the
+   most that was measured, under 5 MiB by an argument that is not proved (docs/CAMPAIGN.md). */
 uint8_t gatesorrel_check(const uint8_t *file, size_t file_length,
                          uint16_t *scratch, size_t scratch_length,
                          uint8_t *report, size_t report_length,
