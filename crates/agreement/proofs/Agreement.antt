@@ -1,4 +1,4 @@
--- On every block that a file gives, the flat definitions agree with the source's own functions on the trees of the file's clauses.
+-- On every block of a file the flat definitions agree with the source's functions on the trees of its clauses: from `simplify`, walks and texts.
 use mathlib.Core.Path.{_≡_, refl, ap₂}
 use mathlib.Core.List.{List, [], _∷_, _++_, map}
 use mathlib.Core.Bool.{Bool}
@@ -10,11 +10,12 @@ use lib.Seq.{append-snoc, split-at}
 use Rattle.scope.specs.Lists.{Text}
 use Rattle.scope.specs.Lines.{lines}
 use Rattle.scope.specs.Types.{Ref, Table}
-use Rattle.scope.specs.Patterns.{Row, Matrix, Raw}
+use Rattle.scope.specs.Patterns.{Raw}
+use Rattle.scope.specs.Simplify.{Row, Matrix}
 use Rattle.scope.specs.Walks.{Walk, turned, joined, ctorsIn, weight, widest, cost, isUseful}
 use Rattle.scope.specs.Text.{source, alone, prettyAt}
 use Rattle.scope.specs.Blocks.{Block, parsed, blockOf}
-use Rattle.scope.specs.Report as report
+use Rattle.scope.specs.Driver as driver
 use Rattle.source.specs.Source as rust
 use Rattle.agreement.specs.Trees as typed
 use Rattle.source.specs.Source.{Patterns, []ᵖ, _∷ᵖ_, Panic}
@@ -25,6 +26,7 @@ use Rattle.agreement.specs.Agreement.{written, SourceAgrees}
 use Rattle.laws.proofs.Costs.{sum-append}
 use Rattle.source.proofs.Rows.{Named, shows-len, rows-append}
 use Rattle.source.proofs.Walks.{useful-agrees, missing-agrees}
+use Rattle.agreement.proofs.Raws.{clausesIn}
 use Rattle.agreement.proofs.Texts.{Proper, pretty-agrees, FreeRows, and-row, all-free}
 use Rattle.agreement.proofs.Clauses.{simplify-shows}
 use Rattle.agreement.proofs.Tables.{proper}
@@ -67,8 +69,8 @@ each-agrees panic table named t fuel {m} h l i k =
     useful-agrees panic table named fuel (rows-take i h) (rows-at i h k) (omega arith)
 
 judged-agrees : (panic : Panic) (table : Table) → Named table → (t : Ref) (fuel : ℕ) (before : Matrix) (ps : rust.Matrix) {rs : Matrix} {qs : rust.Matrix} → ShowsRows table (t ∷ []) before ps → ShowsRows table (t ∷ []) rs qs → cost table 1 (before ++ rs) < fuel
-    → report.judged table before rs ≡ agreement.judged panic fuel ps qs
-unfolding report.judged agreement.judged
+    → driver.judged table before rs ≡ agreement.judgedBySource panic fuel ps qs
+unfolding driver.judged agreement.judgedBySource
 judged-agrees panic table named t fuel before ps h noRows l = refl
 judged-agrees panic table named t fuel before ps h (also {r = r} {p = p} {m = rs} i k) l =
     ap₂ (λ (w : Walk Bool) (v : Walk (List Bool)). joined _++_ (turned (_∷ []) w) v)
@@ -89,14 +91,14 @@ texts-agree {table} {t} panic good (also {r = r} {p = p} {m = m} {ps = ps} h k) 
     go (x ∷ᵖ []ᵖ) i e deeper = ap₂ _∷_ (pretty-agrees panic table good i f) deeper
     go (x ∷ᵖ y ∷ᵖ q) i e deeper = absurd (omega arith)
 
-pub source-agrees : (file : List ℕ) (b : Block) → blockOf (lines file) ≡ parsed b → SourceAgrees file b
-unfolding report.findings
+pub source-agrees : (file : List ℕ) (b : Block) → blockOf (lines file) ≡ parsed b → SourceAgrees (clausesIn (lines file)) b
+unfolding driver.findings
 source-agrees file b e =
     let k = block-sound (lines file) b e in
     let good = proper (k .table) in
     let s = trees-of (k .rows) in
     record {
-      clauses = s .trees;
+      trees = s .trees;
       asWritten = s .as-written;
       agrees = λ panic fuel l.
           let missing = missing-agrees panic (b .table) (good .named) fuel (s .shown panic) l in

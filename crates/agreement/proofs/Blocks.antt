@@ -12,12 +12,12 @@ use Rattle.scope.specs.Lists.{any}
 use Rattle.scope.specs.Limits.{maxNodes}
 use Rattle.scope.specs.Lines.{Line, isLine, bytesOf}
 use Rattle.scope.specs.Types.{Ref, Ctor, Ty, Table, kind, declared, addCtor}
-use Rattle.scope.specs.Patterns.{Row, Matrix, Raw, simplify}
+use Rattle.scope.specs.Patterns.{Raw}
+use Rattle.scope.specs.Simplify.{Row, Matrix, simplify}
 use Rattle.scope.specs.Frames.{Read, fault, found, byte, Frame, typeOf, constructorOf, subjectOf, clauseOf, end, isKind, patterns, frame}
-use Rattle.scope.specs.Blocks.{Block, Phase, types, constructors, clauses, closed, standing, State, start, Step, ok, refuse, _>>=_, need, wholly, suited, nodesIn, stands, hasRoom, isFresh, isSound, afterType, withTable, withRow, enter, framed, line, parsed, finish, goOn, parse, blockOf}
-use Rattle.agreement.specs.Agreement.{clauseIn, clausesIn}
-use Rattle.agreement.specs.Agreement as agreement
+use Rattle.scope.specs.Blocks.{Block, Phase, types, constructors, clauses, closed, standing, State, start, Step, ok, refuse, _>>=_, need, wholly, suited, nodesIn, stands, hasRoom, isFresh, isSound, afterType, withTable, withRow, enter, framed, lineStep, parsed, finish, goOn, parse, blockOf}
 use Rattle.scope.proofs.Tests.{clash}
+use Rattle.agreement.proofs.Raws.{clauseIn, readClause, clausesIn}
 use Rattle.agreement.proofs.Tables.{Of, Yields, give-yields, any-yields, bind-yields, Declared, constructor-yields, type-yields, GoodTypes, no-types, ctor-good, type-good}
 
 -- each clause suits the subject's type and becomes its row
@@ -123,7 +123,7 @@ enter-sound {raws} s s′ h st an-end e =
     let i : new ≡ s′ = cc in
     subst (λ (y : State). Sound y (raws ++ [])) i (rw (append-nil raws) (record { table = h .table; rows = h .rows; early = tt }))
 
-framed-sound : {raws : List (List Raw)} (s s′ : State) (bs : List ℕ) → Sound s raws → framed s bs ≡ ok s′ → Sound s′ (raws ++ agreement.clauseOf bs)
+framed-sound : {raws : List (List Raw)} (s s′ : State) (bs : List ℕ) → Sound s raws → framed s bs ≡ ok s′ → Sound s′ (raws ++ readClause bs)
 unfolding framed
 framed-sound s s′ [] h e = clash (cc)
 framed-sound {raws} s s′ (k ∷ bs) h e =
@@ -133,8 +133,8 @@ framed-sound {raws} s s′ (k ∷ bs) h e =
     let f = then-ok (wholly (frame k bs)) _ (c .1) in
     rw (f .1) (enter-sound s s′ h (b .0) (whole-kind k bs (f .0) (f .1)) (f .2))
 
-line-sound : {raws : List (List Raw)} (s s′ : State) (l : Line) → Sound s raws → line s l ≡ ok s′ → Sound s′ (raws ++ agreement.clauseOf (bytesOf l))
-unfolding line
+line-sound : {raws : List (List Raw)} (s s′ : State) (l : Line) → Sound s raws → lineStep s l ≡ ok s′ → Sound s′ (raws ++ readClause (bytesOf l))
+unfolding lineStep
 line-sound s s′ l h e = framed-sound s s′ (bytesOf l) h (need-ok 3 (isLine l) _ e .1)
 
 -- a block, with the clauses that it is made of
@@ -154,12 +154,12 @@ finish-sound {raws} k s b h e = go (s .phase) e
 parse-sound : {raws : List (List Raw)} (k : ℕ) (s : State) (ls : List Line) (b : Block) → Sound s raws → parse k s ls ≡ parsed b → Blocked b (raws ++ clausesIn ls)
 unfolding parse clausesIn
 parse-sound {raws} k s [] b h e = rw (append-nil raws) (finish-sound k s b h e)
-parse-sound {raws} k s (l ∷ ls) b h e = go (line s l) refl e (λ s′ i j. parse-sound (suc k) s′ ls b i j)
+parse-sound {raws} k s (l ∷ ls) b h e = go (lineStep s l) refl e (λ s′ i j. parse-sound (suc k) s′ ls b i j)
   where
     first : List (List Raw)
-    first = agreement.clauseOf (bytesOf l)
+    first = readClause (bytesOf l)
 
-    go : (x : Step State) → line s l ≡ x → goOn k x (λ s′. parse (suc k) s′ ls) ≡ parsed b
+    go : (x : Step State) → lineStep s l ≡ x → goOn k x (λ s′. parse (suc k) s′ ls) ≡ parsed b
         → ((s′ : State) → Sound s′ (raws ++ first) → parse (suc k) s′ ls ≡ parsed b → Blocked b ((raws ++ first) ++ clausesIn ls)) → Blocked b (raws ++ (first ++ clausesIn ls))
     go (ok s′) i j deeper = rw (← append-assoc raws first (clausesIn ls)) (deeper s′ (line-sound s s′ l h i) j)
     go (refuse n) i j deeper = clash (cc)

@@ -9,8 +9,11 @@ use lib.ListN.{length, getD, take, drop, replicate, length-drop}
 use lib.Seq.{take-length, drop-length, getD-drop}
 use lib.Dec.{ltb, leb, eqb}
 use borrow.Author.Tests.{ltb-true, le-ltb, eqb-true}
-use Rattle.scope.specs.Types.{Ref, Ctor, Ty, integer, byteString, opaque, list, tuple, pair, dat, Table, typeAt, fieldsOf, fieldsAt, built, ctorsAt, ctors, ctorAt, arity, kind, consName, nilName, tupleName}
-use Rattle.scope.specs.Patterns.{Literal, Node, wild, lit, con, Row, Raw, Item, put, pat, suiting, cells, enough, arguments, whole, opened, putting, allPut, _>>=_, simplified, simplify}
+use Rattle.scope.specs.Lists.{Text}
+use Rattle.scope.specs.Types.{Ref, Ctor, Ty, integer, byteString, opaque, list, tuple, pair, dat, Table, typeAt, fieldsOf, kind}
+use Rattle.scope.specs.Constructors.{fieldsAt, built, ctorsAt, ctors, ctorAt, arity, consName, nilName, tupleName}
+use Rattle.scope.specs.Patterns.{Raw}
+use Rattle.scope.specs.Simplify.{Literal, Node, wild, lit, con, Row, Item, put, pat, suiting, elementItems, enough, arguments, whole, opened, putting, allPut, _>>=_, simplified, simplify}
 use Rattle.agreement.specs.Trees as rust
 use Rattle.source.specs.Source.{Pattern, constructor, Patterns, []ᵖ, _∷ᵖ_, _++ᵖ_, len, wildcards, valueConstructor, constructorsFor, Panic}
 use Rattle.agreement.specs.Trees.{listConstructors, tupleConstructors, TypedPattern, TypedPatterns, []ᵗ, _∷ᵗ_, count, spreadBy, simplifyEach, simplifyCells}
@@ -234,7 +237,7 @@ module _ (table : Table) where
         made : Made table t 1 nilName listConstructors []ᵖ
         made = record { known = omega (arith, facts .two); named = facts .nil-name; listed = facts .listed; filled = sym (ap length (facts .nil)) }
 
-    cells-give : (k : ℕ) (tail : Bool) {qs : TypedPatterns} {x : Row} → Filled (cells t element k tail) qs x → Cells k tail qs x
+    cells-give : (k : ℕ) (tail : Bool) {qs : TypedPatterns} {x : Row} → Filled (elementItems t element k tail) qs x → Cells k tail qs x
     unfolding rust.simplify
     cells-give zero true (pats {a = a} {x = x} g empty) = record { elements = []ᵗ; last = a ∷ᵗ []ᵗ; end = λ panic. rust.simplify panic table t a; ending = tailed a; many = refl; whole-patterns = refl; shown = rw (append-nil x) g }
     cells-give zero false (puts empty) = record { elements = []ᵗ; last = []ᵗ; end = λ panic. constructor nilName listConstructors []ᵖ; ending = closed; many = refl; whole-patterns = refl; shown = nil-gives }
@@ -242,7 +245,7 @@ module _ (table : Table) where
         let s = cells-give k tail h in
         record { elements = a ∷ᵗ s .elements; last = s .last; end = s .end; ending = s .ending; many = ap suc (s .many); whole-patterns = ap (a ∷ᵗ_) (s .whole-patterns); shown = cell-gives g (s .shown) }
 
-    list-reads : (k : ℕ) (tail : Bool) {qs : TypedPatterns} {x : Row} → Filled (cells t element k tail) qs x → Reads t (Raw.listOf k tail ∷ writtenEach qs) x
+    list-reads : (k : ℕ) (tail : Bool) {qs : TypedPatterns} {x : Row} → Filled (elementItems t element k tail) qs x → Reads t (Raw.listOf k tail ∷ writtenEach qs) x
     unfolding written rust.simplify
     list-reads k tail {qs} {x} h =
         let s = cells-give k tail h in
@@ -270,18 +273,18 @@ module _ (table : Table) where
   unfolding written
   leaf-reads a p n w g (puts empty) = record { tree = a; as-written = w; shown = g }
 
-  assign-reads : {t : Ref} {qs : TypedPatterns} {x : Row} → Filled (pat t ∷ []) qs x → Reads t (Raw.assign ∷ writtenEach qs) x
+  assign-reads : {t : Ref} {qs : TypedPatterns} {x : Row} (n : Text) → Filled (pat t ∷ []) qs x → Reads t (Raw.assign n ∷ writtenEach qs) x
   unfolding written rust.simplify
-  assign-reads (pats {a = a} {x = x} g empty) = record { tree = rust.assign a; as-written = rw (append-nil (written a)); shown = rw (append-nil x) g }
+  assign-reads n (pats {a = a} {x = x} g empty) = record { tree = rust.assign n a; as-written = rw (append-nil (written a)); shown = rw (append-nil x) g }
 
   -- what a pattern becomes, filled, is a tree that is written as the pattern and what fills it
   opened-reads : (t : Ref) (p : Raw) (new : List Item) {qs : TypedPatterns} {x : Row} → opened table t p ≡ some new → Filled new qs x → Reads t (p ∷ writtenEach qs) x
   unfolding written rust.simplify
   opened-reads t Raw.discard new e h = given true (put wild ∷ []) new e (λ i k. leaf-reads rust.discard Raw.discard wild refl (record { at = λ panic j. wilds j }) k) h
-  opened-reads t Raw.variable new e h = given true (put wild ∷ []) new e (λ i k. leaf-reads rust.var Raw.variable wild refl (record { at = λ panic j. wilds j }) k) h
-  opened-reads t Raw.assign new e h = given true (pat t ∷ []) new e (λ i k. assign-reads k) h
-  opened-reads t (Raw.number n) new e h = given (eqb (kind (typeAt table t)) 0) _ new e (λ i k. leaf-reads (rust.int n) (Raw.number n) (lit (Literal.int n)) refl (record { at = λ panic j. lits (eqb-true _ _ i) j }) k) h
-  opened-reads t (Raw.string s) new e h = given (eqb (kind (typeAt table t)) 1) _ new e (λ i k. leaf-reads (rust.byteArray s) (Raw.string s) (lit (Literal.byteArray s)) refl (record { at = λ panic j. lits (eqb-true _ _ i) j }) k) h
+  opened-reads t (Raw.variable n) new e h = given true (put wild ∷ []) new e (λ i k. leaf-reads (rust.var n) (Raw.variable n) wild refl (record { at = λ panic j. wilds j }) k) h
+  opened-reads t (Raw.assign n) new e h = given true (pat t ∷ []) new e (λ i k. assign-reads n k) h
+  opened-reads t (Raw.integerOf n) new e h = given (eqb (kind (typeAt table t)) 0) _ new e (λ i k. leaf-reads (rust.int n) (Raw.integerOf n) (lit (Literal.int n)) refl (record { at = λ panic j. lits (eqb-true _ _ i) j }) k) h
+  opened-reads t (Raw.byteStringOf s) new e h = given (eqb (kind (typeAt table t)) 1) _ new e (λ i k. leaf-reads (rust.byteArray s) (Raw.byteStringOf s) (lit (Literal.byteArray s)) refl (record { at = λ panic j. lits (eqb-true _ _ i) j }) k) h
   opened-reads t (Raw.listOf k tail) new e h = given (eqb (kind (typeAt table t)) 3) _ new e (λ i f. list-reads t (list-facts t (typeAt table t) (eqb-true _ _ i)) k tail f) h
   opened-reads t (Raw.constructor c k spread) new e h =
       let small = ltb c (length (ctors table t)) in

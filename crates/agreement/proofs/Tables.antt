@@ -8,8 +8,9 @@ use lib.ListN.{length, getD}
 use lib.Dec.{leb}
 use borrow.Author.Tests.{leb-true, ne-eqb, not-true}
 use Rattle.scope.specs.Lists.{Text, bit, any, same, twice}
-use Rattle.scope.specs.Types.{Ref, Ctor, Ty, integer, byteString, opaque, list, tuple, pair, dat, Table, typeAt, kind, nameOf, built, ctorsAt, ctors, ctorAt, consName, nilName, tupleName, declared, addCtor}
-use Rattle.scope.specs.Frames.{Read, fault, found, Reader, andThen, _>>=_, give, byte, passing, within, flag, times, choosing, isUpper, isBig, name, bigName, smallName, typeKinds, typeFrame, fieldsFor, constructorFrame}
+use Rattle.scope.specs.Types.{Ref, Ctor, Ty, integer, byteString, opaque, list, tuple, pair, dat, Table, typeAt, kind, nameOf, declared, addCtor}
+use Rattle.scope.specs.Constructors.{built, ctorsAt, ctors, ctorAt, consName, nilName, tupleName}
+use Rattle.scope.specs.Frames.{Read, fault, found, Reader, andThen, _>>=_, give, byte, passing, within, flag, times, choosing, isUpper, isBig, bigName, smallName, typeKinds, typeFrame, fieldsFor, constructorFrame}
 use Rattle.scope.specs.Blocks.{isFresh}
 use Rattle.scope.proofs.Tests.{clash, both, neither}
 use Rattle.source.proofs.Rows.{same-sym}
@@ -41,7 +42,7 @@ bind-yields {A} {B} {P} {Q} {r} {f} h k = record { at = λ bs. go (r bs) (h .at 
     go (fault rest) u = tt
     go (found a rest) u = k a u .at rest
 
-passing-yields : (good : ℕ → Bool) → Yields (λ b. good b ≡ true) (passing good)
+pub passing-yields : (good : ℕ → Bool) → Yields (λ b. good b ≡ true) (passing good)
 passing-yields good = record { at = go }
   where
     test : (b : ℕ) (bs : List ℕ) (x : Bool) → good b ≡ x → Of (λ b′. good b′ ≡ true) (cond x (found b bs) (fault (b ∷ bs)))

@@ -10,8 +10,9 @@ use lib.Seq.{drop-append-add}
 use lib.Dec.{eqb}
 use borrow.Author.Tests.{eqb-true, eqb-false, ne-eqb}
 use Rattle.scope.specs.Lists.{Text, bytes, same}
-use Rattle.scope.specs.Types.{Ref, Ctor, Table, alts, ctors, ctorAt, fieldsAt, arity, consName, nilName, tupleName}
-use Rattle.scope.specs.Patterns.{Literal, Node, wild, lit, con, Row, Matrix}
+use Rattle.scope.specs.Types.{Ref, Ctor, Table}
+use Rattle.scope.specs.Constructors.{alts, ctors, ctorAt, fieldsAt, arity, consName, nilName, tupleName}
+use Rattle.scope.specs.Simplify.{Literal, Node, wild, lit, con, Row, Matrix}
 use Rattle.scope.specs.Text.{commas, contains, skip, source, textUnless, Look, look, lookByName, Place, alone, inTail, texts, fieldText, fieldTexts, argumentText, prettyCtor, tailCtor, prettyStep, prettyAt}
 use Rattle.scope.specs.Walks as flat
 use Rattle.agreement.specs.Trees as rust

@@ -6,8 +6,9 @@ use Prim.Native.Nat.{ℕ, suc, _-_}
 use lib.ListN.{getD, drop}
 use lib.Dec.{eqb, ltb}
 use Rattle.scope.specs.Lists.{Text, bytes, same}
-use Rattle.scope.specs.Types.{Ref, Table, ctorAt, fieldsAt, arity, consName, nilName, tupleName}
-use Rattle.scope.specs.Patterns.{Literal}
+use Rattle.scope.specs.Types.{Ref, Table}
+use Rattle.scope.specs.Constructors.{ctorAt, fieldsAt, arity, consName, nilName, tupleName}
+use Rattle.scope.specs.Simplify.{Literal}
 use Rattle.scope.specs.Text.{commas, contains}
 use Rattle.source.specs.Source.{ValueConstructor, Pattern, wildcard, literal, constructor, Patterns, []ᵖ, _∷ᵖ_, _++ᵖ_, wildcards, Panic, constructorsFor}
 
@@ -96,9 +97,9 @@ tupleConstructors arity = record { name = tupleName; arity = arity; fieldMap = n
 infixr 67 _∷ᵗ_
 mutual
   pub data TypedPattern : Type 0 where
-    var discard : TypedPattern
-    int byteArray : Text → TypedPattern
-    assign : TypedPattern → TypedPattern
+    discard : TypedPattern
+    var int byteArray : Text → TypedPattern
+    assign : Text → TypedPattern → TypedPattern
     list : TypedPatterns → TypedPattern
     listTo : TypedPatterns → TypedPattern → TypedPattern
     ctor : ℕ → TypedPatterns → Bool → TypedPattern
@@ -126,13 +127,17 @@ module _ (panic : Panic) (table : Table) where
     pub simplify : Ref → TypedPattern → Pattern
     simplify t (int n) = literal (Literal.int n)
     simplify t (byteArray s) = literal (Literal.byteArray s)
-    simplify t (assign p) = simplify t p
+    simplify t (assign n p) = simplify t p
     simplify t (list elements) = simplifyCells (getD (fieldsAt table t 0) 0 0) elements (constructor nilName listConstructors []ᵖ)
     simplify t (listTo elements tail) = simplifyCells (getD (fieldsAt table t 0) 0 0) elements (simplify t tail)
-    simplify t (ctor c args spread) = constructor (ctorAt table t c .name) (constructorsFor table t) (simplifyEach (fieldsAt table t c) args ++ᵖ spreadBy panic (arity table t c) (count args) spread)
-    simplify t (pair fst snd) = constructor tupleName (tupleConstructors 2) (simplify (getD (fieldsAt table t 0) 0 0) fst ∷ᵖ simplify (getD (fieldsAt table t 0) 1 0) snd ∷ᵖ []ᵖ)
+    simplify t (ctor c args spread) =
+        constructor (ctorAt table t c .name) (constructorsFor table t)
+        (simplifyEach (fieldsAt table t c) args ++ᵖ spreadBy panic (arity table t c) (count args) spread)
+    simplify t (pair fst snd) =
+        constructor tupleName (tupleConstructors 2)
+        (simplify (getD (fieldsAt table t 0) 0 0) fst ∷ᵖ simplify (getD (fieldsAt table t 0) 1 0) snd ∷ᵖ []ᵖ)
     simplify t (tuple elems) = constructor tupleName (tupleConstructors (count elems)) (simplifyEach (fieldsAt table t 0) elems)
-    simplify t var = wildcard
+    simplify t (var n) = wildcard
     simplify t discard = wildcard
 
     -- each of the patterns, of these types

@@ -8,8 +8,9 @@ use native.Mathlib.Omega.{arith}
 use lib.ListN.{length, getD, replicate}
 use lib.Dec.{eqb}
 use Rattle.scope.specs.Lists.{sum, flatten}
-use Rattle.scope.specs.Types.{Ref, Ctor, Ty, integer, byteString, opaque, list, tuple, pair, dat, Table, fieldsOf, built, ctorsAt, ctors, arity}
-use Rattle.scope.specs.Patterns.{Literal, sameLiteral, wild, lit, con, Row, Matrix}
+use Rattle.scope.specs.Types.{Ref, Ctor, Ty, integer, byteString, opaque, list, tuple, pair, dat, Table, fieldsOf}
+use Rattle.scope.specs.Constructors.{built, ctorsAt, ctors, arity}
+use Rattle.scope.specs.Simplify.{Literal, sameLiteral, wild, lit, con, Row, Matrix}
 use Rattle.scope.specs.Walks.{rowIf, specializeRowByCtor, specializeRowByLiteral, specializeRowByWildcard, eachRow, specializeByCtor, specializeByLiteral, specializeByWildcard, beginsWith, seen, longest, widest, ctorsIn, weight, cost}
 use Rattle.scope.proofs.Tests.{clash}
 

@@ -6,8 +6,8 @@ use Prim.Native.Nat.{ℕ, zero, suc, _+_, _-_, _≤_, _<_}
 use native.Mathlib.Omega.{arith}
 use lib.ListN.{length, getD}
 use Rattle.scope.specs.Lists.{Text, among}
-use Rattle.scope.specs.Patterns.{Raw, number, string, inner}
-use Rattle.scope.specs.Frames.{Read, fault, found, Reader, andThen, _>>=_, give, byte, passing, within, flag, times, choosing, judging, name, text, smallName, isDecimal, patternKinds, pattern, patternsIn, patterns}
+use Rattle.scope.specs.Patterns.{Raw, variable, assign, integerOf, byteStringOf, inner}
+use Rattle.scope.specs.Frames.{Read, fault, found, Reader, andThen, _>>=_, give, byte, passing, within, flag, times, choosing, onlyIf, nameBy, textFrom, smallName, isDecimal, patternKinds, pattern, patternsIn, patterns}
 
 -- what is left of the bytes is fewer than n
 abbrev Under : {A : Type 0} → Read A → ℕ → Type 0
@@ -50,7 +50,7 @@ bind-shrinks r f h k = record { at = λ bs. go bs (r bs) (h .at bs) }
     go bs (fault rest) u = tt
     go bs (found a rest) u = under-more (f a rest) u (k a .at rest)
 
-judging-shrinks : {A : Type 0} (good : A → Bool) (r : Reader A) → Shrinks r → Shrinks (judging good r)
+judging-shrinks : {A : Type 0} (good : A → Bool) (r : Reader A) → Shrinks r → Shrinks (onlyIf good r)
 judging-shrinks {A} good r h = record { at = λ bs. go bs (r bs) (h .at bs) }
   where
     test : (a : A) (bs rest : List ℕ) (x : Bool) → length rest < suc (length bs) → Under (cond x (found a rest) (fault bs)) (suc (length bs))
@@ -68,12 +68,12 @@ times-shrinks {A} (suc n) r h = bind-shrinks r _ h (λ a. bind-shrinks (times n 
 flag-shrinks : Shrinks flag
 flag-shrinks = bind-shrinks (within 0 1) _ (passing-shrinks (among 0 1)) (λ b. give-shrinks _)
 
-name-shrinks : (first other : ℕ → Bool) → Shrinks (name first other)
+name-shrinks : (first other : ℕ → Bool) → Shrinks (nameBy first other)
 name-shrinks first other =
     bind-shrinks (within 1 32) _ (passing-shrinks (among 1 32))
     (λ n. bind-shrinks (passing first) _ (passing-shrinks first) (λ b. bind-shrinks (times (n - 1) (passing other)) _ (times-shrinks (n - 1) (passing other) (passing-shrinks other)) (λ bs. give-shrinks (b ∷ bs))))
 
-text-shrinks : (lo : ℕ) (good : Text → Bool) → Shrinks (text lo good)
+text-shrinks : (lo : ℕ) (good : Text → Bool) → Shrinks (textFrom lo good)
 text-shrinks lo good = bind-shrinks (within lo 64) _ (passing-shrinks (among lo 64)) (λ n. judging-shrinks good (times n byte) (times-shrinks n byte byte-shrinks))
 
 small-shrinks : Shrinks smallName
@@ -99,13 +99,13 @@ choosing-under rs e [] = tt
 choosing-under rs e (b ∷ bs) = every-at Shrinks rs (λ rest. fault (b ∷ bs)) e (fault-shrinks (b ∷ bs)) b .at bs
 
 kinds-shrink : Every Shrinks patternKinds
-kinds-shrink = (give-shrinks _, (named _, (named _, (texted 1 isDecimal number, (texted 0 (λ t. true) string, (aList, (aCtor, (give-shrinks _, (aTuple, tt)))))))))
+kinds-shrink = (give-shrinks _, (named variable, (named assign, (texted 1 isDecimal integerOf, (texted 0 (λ t. true) byteStringOf, (aList, (aCtor, (give-shrinks _, (aTuple, tt)))))))))
   where
-    named : (p : Raw) → Shrinks (smallName >>= λ n. give p)
-    named p = bind-shrinks smallName _ small-shrinks (λ n. give-shrinks p)
+    named : (p : Text → Raw) → Shrinks (smallName >>= λ n. give (p n))
+    named p = bind-shrinks smallName _ small-shrinks (λ n. give-shrinks (p n))
 
-    texted : (lo : ℕ) (good : Text → Bool) (f : Text → Raw) → Shrinks (text lo good >>= λ t. give (f t))
-    texted lo good f = bind-shrinks (text lo good) _ (text-shrinks lo good) (λ t. give-shrinks (f t))
+    texted : (lo : ℕ) (good : Text → Bool) (f : Text → Raw) → Shrinks (textFrom lo good >>= λ t. give (f t))
+    texted lo good f = bind-shrinks (textFrom lo good) _ (text-shrinks lo good) (λ t. give-shrinks (f t))
 
     aList : Shrinks (getD patternKinds 5 (λ bs. fault bs))
     aList = bind-shrinks byte _ byte-shrinks (λ k. bind-shrinks flag _ flag-shrinks (λ tail. give-shrinks _))

@@ -6,8 +6,9 @@ use mathlib.Core.Option.{Option, none, some}
 use Prim.Native.Nat.{ℕ, zero, suc, _+_, _*_, _≤_, _<_}
 use native.Mathlib.Omega.{arith}
 use lib.ListN.{length, replicate}
-use Rattle.scope.specs.Types.{Ref, Table, alts, arity}
-use Rattle.scope.specs.Patterns.{wild, lit, con, Row, Matrix}
+use Rattle.scope.specs.Types.{Ref, Table}
+use Rattle.scope.specs.Constructors.{alts, arity}
+use Rattle.scope.specs.Simplify.{wild, lit, con, Row, Matrix}
 use Rattle.scope.specs.Walks.{specializeByCtor, specializeByLiteral, specializeByWildcard, seen, allSeen, columnType, Column, bare, part, full, columnAt, column}
 use Rattle.scope.specs.Walks.{Walk, holding, tryEach, gather, usefulWild, usefulHead, isUsefulStep, missingColumn, collectMissingStep, isUsefulIn, collectMissingIn, longest, widest, cost, isUseful, collectMissingPatterns}
 use Rattle.scope.proofs.Tests.{clash, both}

@@ -5,8 +5,9 @@ use Prim.Native.Nat.{ℕ, zero, suc, _+_, _≤_}
 use native.Mathlib.Omega.{arith}
 use lib.ListN.{length}
 use Rattle.scope.specs.Lists.{Text, bytes}
-use Rattle.scope.specs.Types.{Table, arity, ctorAt}
-use Rattle.scope.specs.Patterns.{wild, lit, con, Row}
+use Rattle.scope.specs.Types.{Table}
+use Rattle.scope.specs.Constructors.{arity, ctorAt}
+use Rattle.scope.specs.Simplify.{wild, lit, con, Row}
 use Rattle.scope.specs.Text.{commas, skip, Look, round, square, spelled, look, Mode, Place, alone, inTail, texts, fieldText, fieldTexts, argumentText, prettyCtor, tailCtor, prettyStep, prettyIn, prettyAt}
 
 skip-shorter : (table : Table) (r : Row) (n : ℕ) → length (skip table r n) ≤ length r

@@ -8,13 +8,16 @@ use native.Mathlib.Omega.{arith}
 use lib.ListN.{length, getD, take, replicate}
 use lib.Dec.{ltb, leb, eqb}
 use borrow.Author.Tests.{ltb-true, leb-true, eqb-true}
-use Rattle.scope.specs.Types.{Ref, Ty, integer, byteString, opaque, list, tuple, pair, dat, Table, typeAt, fieldsOf, fieldsAt, built, ctorsAt, ctors, kind}
-use Rattle.scope.specs.Patterns.{Literal, literalKind, int, byteArray, Node, wild, lit, con, Row, Typed, Raw, discard, variable, assign, pairOf, number, string, listOf, constructor, tupleOf, Item, put, pat, suiting, cells, enough, arguments, whole, opened, putting, allPut, _>>=_, simplified, simplify}
+use Rattle.scope.specs.Types.{Ref, Ty, integer, byteString, opaque, list, tuple, pair, dat, Table, typeAt, fieldsOf, kind}
+use Rattle.scope.specs.Constructors.{fieldsAt, built, ctorsAt, ctors}
+use Rattle.scope.specs.Patterns.{Raw, discard, variable, assign, pairOf, integerOf, byteStringOf, listOf, constructor, tupleOf}
+use Rattle.scope.specs.Simplify.{Literal, int, byteArray, Node, wild, lit, con, Row, Item, put, pat, suiting, elementItems, enough, arguments, whole, opened, putting, allPut, _>>=_, simplified, simplify}
+use Rattle.laws.specs.Typed.{literalKind, Typed}
 use Rattle.scope.proofs.Tests.{clash, both}
 
 module _ (table : Table) where
   -- the items will be patterns of these types
-  data Fit : List Ref → List Item → Type 0 where
+  pub data Fit : List Ref → List Item → Type 0 where
     done : Fit [] []
     pats : {t : Ref} {ts : List Ref} {is : List Item} → Fit ts is → Fit (t ∷ ts) (pat t ∷ is)
     wilds : {t : Ref} {ts : List Ref} {is : List Item} → Fit ts is → Fit (t ∷ ts) (put wild ∷ is)
@@ -100,13 +103,13 @@ module _ (table : Table) (rest : List Item) (ts : List Ref) (f : Fit table ts re
   two-ctors : (t : Ref) (c : ℕ) → kind (typeAt table t) ≡ 3 → c < 2 → c < length (ctors table t)
   two-ctors t c h l = omega (arith, list-facts t (typeAt table t) h .0)
 
-  cells-fit : (t : Ref) (k : ℕ) (tail : Bool) → kind (typeAt table t) ≡ 3 → Fit table (t ∷ ts) (cells t (getD (fieldsAt table t 0) 0 0) k tail ++ rest)
+  cells-fit : (t : Ref) (k : ℕ) (tail : Bool) → kind (typeAt table t) ≡ 3 → Fit table (t ∷ ts) (elementItems t (getD (fieldsAt table t 0) 0 0) k tail ++ rest)
   cells-fit t zero true h = pats f
   cells-fit t zero false h = let l = list-facts t (typeAt table t) h in cons {c = 1} (two-ctors t 1 h (omega arith)) (subst (λ (fs : List Ref). Fit table (fs ++ ts) rest) (sym (l .2)) f)
   cells-fit t (suc k) tail h =
       let l = list-facts t (typeAt table t) h in
       let e = getD (fieldsAt table t 0) 0 0 in
-      cons {c = 0} (two-ctors t 0 h (omega arith)) (subst (λ (fs : List Ref). Fit table (fs ++ ts) (pat e ∷ (cells t e k tail ++ rest))) (sym (l .1)) (pats (cells-fit t k tail h)))
+      cons {c = 0} (two-ctors t 0 h (omega arith)) (subst (λ (fs : List Ref). Fit table (fs ++ ts) (pat e ∷ (elementItems t e k tail ++ rest))) (sym (l .1)) (pats (cells-fit t k tail h)))
 
   ctor-fits : (t : Ref) (c k : ℕ) → c < length (ctors table t) → k ≤ length (fieldsAt table t c) → Fit table (t ∷ ts) ((put (con t c) ∷ arguments k (fieldsAt table t c)) ++ rest)
   ctor-fits t c k h l = cons h (arguments-fit k (length (fieldsAt table t c) - k) (fieldsAt table t c) (omega arith))
@@ -121,13 +124,13 @@ module _ (table : Table) (rest : List Item) (ts : List Ref) (f : Fit table ts re
   tested us b is new e g = let w = suiting-some b is new e in subst (λ (x : List Item). Fit table us (x ++ rest)) (w .1) (g (w .0))
 
   -- what a pattern becomes is of the type that it was read at
-  opened-fits : (t : Ref) (p : Raw) (new : List Item) → opened table t p ≡ some new → Fit table (t ∷ ts) (new ++ rest)
+  pub opened-fits : (t : Ref) (p : Raw) (new : List Item) → opened table t p ≡ some new → Fit table (t ∷ ts) (new ++ rest)
   opened-fits t discard new e = given (t ∷ ts) (put wild ∷ []) new e (wilds f)
-  opened-fits t variable new e = given (t ∷ ts) (put wild ∷ []) new e (wilds f)
-  opened-fits t assign new e = given (t ∷ ts) (pat t ∷ []) new e (pats f)
+  opened-fits t (variable n) new e = given (t ∷ ts) (put wild ∷ []) new e (wilds f)
+  opened-fits t (assign n) new e = given (t ∷ ts) (pat t ∷ []) new e (pats f)
   opened-fits t pairOf new e = tested (t ∷ ts) _ _ new e (λ h. whole-fits t 5 (omega arith) (omega arith) (eqb-true _ _ h))
-  opened-fits t (number n) new e = tested (t ∷ ts) _ (put (lit (int n)) ∷ []) new e (λ h. lits (eqb-true _ _ h) f)
-  opened-fits t (string s) new e = tested (t ∷ ts) _ (put (lit (byteArray s)) ∷ []) new e (λ h. lits (eqb-true _ _ h) f)
+  opened-fits t (integerOf n) new e = tested (t ∷ ts) _ (put (lit (int n)) ∷ []) new e (λ h. lits (eqb-true _ _ h) f)
+  opened-fits t (byteStringOf s) new e = tested (t ∷ ts) _ (put (lit (byteArray s)) ∷ []) new e (λ h. lits (eqb-true _ _ h) f)
   opened-fits t (listOf k tail) new e = tested (t ∷ ts) _ _ new e (λ h. cells-fit t k tail (eqb-true _ _ h))
   opened-fits t (constructor c k spread) new e =
       let small = ltb c (length (ctors table t)) in

@@ -9,8 +9,9 @@ use native.Mathlib.Omega.{arith}
 use lib.ListN.{length, replicate}
 use lib.Dec.{eqb}
 use borrow.Author.Tests.{eqb-true}
-use Rattle.scope.specs.Types.{Ref, Ctor, Table, fieldsOf, fieldsAt, ctors, alts, arity}
-use Rattle.scope.specs.Patterns.{Literal, sameLiteral, wild, lit, Row, Matrix}
+use Rattle.scope.specs.Types.{Ref, Ctor, Table, fieldsOf}
+use Rattle.scope.specs.Constructors.{fieldsAt, ctors, alts, arity}
+use Rattle.scope.specs.Simplify.{Literal, sameLiteral, wild, lit, Row, Matrix}
 use Rattle.scope.specs.Walks.{rowIf, specializeRowByCtor, specializeRowByLiteral, specializeRowByWildcard, specializeByCtor, specializeByLiteral, specializeByWildcard, seen, allSeen, columnType, Column, bare, part, full, columnAt, column}
 use Rattle.scope.proofs.Tests.{clash, both}
 use Rattle.meaning.proofs.Fitting.{Suits, wilds, lits, cons, AllSuit, noRows, also}

@@ -7,14 +7,14 @@ use Prim.Native.Nat.{ℕ, zero, suc, _+_, _*_, _-_, _^_, _/_, _%_, _≤_, _<_}
 use native.Mathlib.Nat.{pow-suc, mul-assoc, pow-le-pow-right, mul-le-mul-right}
 use native.Mathlib.Omega.{arith}
 use lib.ListN.{length, length-append}
-use lib.Dec.{leb, ltb, eqb, lit<}
-use borrow.Author.Tests.{ltb-true, ltb-false, leb-true, eqb-true, le-leb, ne-eqb}
+use lib.Dec.{ltb, eqb, lit<}
+use borrow.Author.Tests.{ltb-true, ltb-false, eqb-true, le-leb, ne-eqb}
 use Rattle.scope.specs.Lists.{Text, all, among}
 use Rattle.scope.specs.Frames.{isDigit, isPositive, isDecimal}
 use Rattle.scope.specs.Text.{decimalIn, decimal}
-use Rattle.meaning.specs.Values.{Whole, plus, minus, digits, denotes}
+use Rattle.meaning.specs.Values.{Number, plus, minus, digitsSay, denotes}
 use Rattle.meaning.specs.Meaning.{DecimalOnce, NumbersSay}
-use Rattle.scope.proofs.Tests.{clash, both, and-true, either, or-right}
+use Rattle.scope.proofs.Tests.{clash, both, and-true, either, or-right, among-is}
 
 -- all are digits
 abbrev Digits : Text → Type 0
@@ -31,13 +31,13 @@ natural-digits : (a : Text) → Natural a → Digits a
 natural-digits (d ∷ []) h = (h .0, h .1, tt)
 natural-digits (d ∷ e ∷ ds) h = (omega (arith, h .0), h .1, h .2)
 
-digits-lt : (a : Text) → Digits a → digits a < 10 ^ length a
+digits-lt : (a : Text) → Digits a → digitsSay a < 10 ^ length a
 digits-lt [] h = lit< tt
 digits-lt (d ∷ ds) h =
     let i = digits-lt ds (h .2) in
     omega (arith, mul-le-mul-right {m = d - 48} {n = 9} (10 ^ length ds) (omega (arith, h .1)), pow-suc 10 (length ds))
 
-digits-ge : (d : ℕ) (ds : Text) → 49 ≤ d → 10 ^ length ds ≤ digits (d ∷ ds)
+digits-ge : (d : ℕ) (ds : Text) → 49 ≤ d → 10 ^ length ds ≤ digitsSay (d ∷ ds)
 digits-ge d ds h = omega (arith, mul-le-mul-right {m = 1} {n = d - 48} (10 ^ length ds) (omega arith))
 
 lead : (x y p v w : ℕ) → v < p → w < p → x * p + v ≡ y * p + w → x ≤ y
@@ -47,28 +47,28 @@ lead x y p v w i j e = go (ltb y x) refl
     go true q = let h : suc y ≤ x = ltb-true y x q in absurd (omega (arith, mul-le-mul-right p h))
     go false q = ltb-false y x q
 
-same-width : (a b : Text) → length a ≡ length b → Digits a → Digits b → digits a ≡ digits b → a ≡ b
+same-width : (a b : Text) → length a ≡ length b → Digits a → Digits b → digitsSay a ≡ digitsSay b → a ≡ b
 same-width [] [] l x y e = refl
 same-width [] (d ∷ b) l x y e = absurd (omega arith)
 same-width (c ∷ a) [] l x y e = absurd (omega arith)
 same-width (c ∷ a) (d ∷ b) l x y e =
     let k : length a ≡ length b = omega arith in
     let i = digits-lt a (x .2) in
-    let j : digits b < 10 ^ length a = rw k (digits-lt b (y .2)) in
-    let f : (c - 48) * 10 ^ length a + digits a ≡ (d - 48) * 10 ^ length a + digits b = e ∙ rw k in
-    let u = lead (c - 48) (d - 48) (10 ^ length a) (digits a) (digits b) i j f in
-    let v = lead (d - 48) (c - 48) (10 ^ length a) (digits b) (digits a) j i (sym f) in
+    let j : digitsSay b < 10 ^ length a = rw k (digits-lt b (y .2)) in
+    let f : (c - 48) * 10 ^ length a + digitsSay a ≡ (d - 48) * 10 ^ length a + digitsSay b = e ∙ rw k in
+    let u = lead (c - 48) (d - 48) (10 ^ length a) (digitsSay a) (digitsSay b) i j f in
+    let v = lead (d - 48) (c - 48) (10 ^ length a) (digitsSay b) (digitsSay a) j i (sym f) in
     let s : c ≡ d = omega (arith, x .0, y .0) in
-    let g : (c - 48) * 10 ^ length a + digits a ≡ (c - 48) * 10 ^ length a + digits b = rw (← s) at f in
-    let t : digits a ≡ digits b = omega arith in
+    let g : (c - 48) * 10 ^ length a + digitsSay a ≡ (c - 48) * 10 ^ length a + digitsSay b = rw (← s) at f in
+    let t : digitsSay a ≡ digitsSay b = omega arith in
     rw (s, same-width a b k (x .2) (y .2) t)
 
 -- a longer text is a larger number
-longer : (a b : Text) → Natural a → Natural b → length a < length b → digits a < digits b
+longer : (a b : Text) → Natural a → Natural b → length a < length b → digitsSay a < digitsSay b
 longer (c ∷ a) (d ∷ []) x y l = absurd (omega arith)
 longer (c ∷ a) (d ∷ e ∷ b) x y l = omega (arith, digits-lt (c ∷ a) (natural-digits (c ∷ a) x), digits-ge d (e ∷ b) (y .0), pow-le-pow-right {n = 10} (lit< tt) {i = length (c ∷ a)} {j = length (e ∷ b)} (omega arith))
 
-natural-same : (a b : Text) → Natural a → Natural b → digits a ≡ digits b → a ≡ b
+natural-same : (a b : Text) → Natural a → Natural b → digitsSay a ≡ digitsSay b → a ≡ b
 natural-same a b x y e = go (ltb (length a) (length b)) refl (ltb (length b) (length a)) refl
   where
     go : (p : Bool) → ltb (length a) (length b) ≡ p → (q : Bool) → ltb (length b) (length a) ≡ q → a ≡ b
@@ -77,28 +77,25 @@ natural-same a b x y e = go (ltb (length a) (length b)) refl (ltb (length b) (le
     go false i false j = same-width a b (omega (arith, ltb-false (length a) (length b) i, ltb-false (length b) (length a) j)) (natural-digits a x) (natural-digits b y) e
 
 -- what an admitted text is: digits, or a minus and digits that are not 0
-data Decimal : Text → Whole → Type 0 where
-  unsigned : {a : Text} → Natural a → Decimal a (plus (digits a))
-  signed : {a : Text} → Natural a → 0 < digits a → Decimal (45 ∷ a) (minus (digits a - 1))
-
-among-true : (lo hi d : ℕ) → among lo hi d ≡ true → (lo ≤ d) × (d ≤ hi)
-among-true lo hi d h = let p = both (leb lo d) (leb d hi) h in (leb-true lo d (p .0), leb-true d hi (p .1))
+data Decimal : Text → Number → Type 0 where
+  unsigned : {a : Text} → Natural a → Decimal a (plus (digitsSay a))
+  signed : {a : Text} → Natural a → 0 < digitsSay a → Decimal (45 ∷ a) (minus (digitsSay a - 1))
 
 all-digits : (ds : Text) → all isDigit ds ≡ true → Digits ds
 all-digits [] h = tt
 all-digits (d ∷ ds) h =
     let p = both (isDigit d) (all isDigit ds) h in
-    let a = among-true 48 57 d (p .0) in
+    let a = among-is 48 57 d (p .0) in
     (a .0, omega (arith, a .1), all-digits ds (p .1))
 
-positive-natural : (ds : Text) → isPositive ds ≡ true → Natural ds × (0 < digits ds)
+positive-natural : (ds : Text) → isPositive ds ≡ true → Natural ds × (0 < digitsSay ds)
 positive-natural [] h = clash (cc)
 positive-natural (d ∷ []) h =
-    let a = among-true 49 57 d (both (among 49 57 d) true h .0) in
+    let a = among-is 49 57 d (both (among 49 57 d) true h .0) in
     ((omega (arith, a .0), omega (arith, a .1)), omega (arith, digits-ge d [] (a .0)))
 positive-natural (d ∷ e ∷ ds) h =
     let p = both (among 49 57 d) (all isDigit (e ∷ ds)) h in
-    let a = among-true 49 57 d (p .0) in
+    let a = among-is 49 57 d (p .0) in
     ((a .0, omega (arith, a .1), all-digits (e ∷ ds) (p .1)), omega (arith, digits-ge d (e ∷ ds) (a .0), pow-le-pow-right {n = 10} (lit< tt) {i = 0} {j = length (e ∷ ds)} (omega arith)))
 
 decimal-view : (t : Text) → isDecimal t ≡ true → Decimal t (denotes t)
@@ -120,16 +117,16 @@ decimal-view (d ∷ ds) h = sign (eqb d 45) refl h
     natural (inl g) = unit g
     natural (inr g) = positive-natural (d ∷ ds) g .0
 
-    sign : (b : Bool) → eqb d 45 ≡ b → cond b (isPositive ds) ((eqb d 48 && eqb (length ds) 0) || isPositive (d ∷ ds)) ≡ true → Decimal (d ∷ ds) (cond b (minus (digits ds - 1)) (plus (digits (d ∷ ds))))
-    sign true e g = let p = positive-natural ds g in subst (λ (x : ℕ). Decimal (x ∷ ds) (minus (digits ds - 1))) (sym (eqb-true d 45 e)) (signed (p .0) (p .1))
+    sign : (b : Bool) → eqb d 45 ≡ b → cond b (isPositive ds) ((eqb d 48 && eqb (length ds) 0) || isPositive (d ∷ ds)) ≡ true → Decimal (d ∷ ds) (cond b (minus (digitsSay ds - 1)) (plus (digitsSay (d ∷ ds))))
+    sign true e g = let p = positive-natural ds g in subst (λ (x : ℕ). Decimal (x ∷ ds) (minus (digitsSay ds - 1))) (sym (eqb-true d 45 e)) (signed (p .0) (p .1))
     sign false e g = unsigned (natural (either (eqb d 48 && eqb (length ds) 0) (isPositive (d ∷ ds)) g))
 
-views-same : (a b : Text) (m n : Whole) → Decimal a m → Decimal b n → m ≡ n → a ≡ b
+views-same : (a b : Text) (m n : Number) → Decimal a m → Decimal b n → m ≡ n → a ≡ b
 views-same a b m n (unsigned x) (unsigned y) e = natural-same a b x y (cc)
 views-same a b m n (unsigned x) (signed y l) e = clash (cc)
 views-same a b m n (signed x k) (unsigned y) e = clash (cc)
 views-same a b m n (signed {a = c} x k) (signed {a = d} y l) e =
-    let z : digits c - 1 ≡ digits d - 1 = cc in
+    let z : digitsSay c - 1 ≡ digitsSay d - 1 = cc in
     rw (natural-same c d x y (omega arith))
 
 -- two admitted texts that denote the same integer are equal
@@ -137,7 +134,7 @@ pub decimal-same : (a b : Text) → isDecimal a ≡ true → isDecimal b ≡ tru
 decimal-same a b x y e = views-same a b (denotes a) (denotes b) (decimal-view a x) (decimal-view b y) e
 
 -- one more digit at the end
-digits-snoc : (a : Text) (d : ℕ) → digits (a ++ d ∷ []) ≡ 10 * digits a + (d - 48)
+digits-snoc : (a : Text) (d : ℕ) → digitsSay (a ++ d ∷ []) ≡ 10 * digitsSay a + (d - 48)
 digits-snoc [] d = omega arith
 digits-snoc (x ∷ a) d =
     let e : length (a ++ d ∷ []) ≡ suc (length a) = omega (arith, length-append a (d ∷ [])) in
@@ -145,11 +142,11 @@ digits-snoc (x ∷ a) d =
     omega (arith, digits-snoc a d)
 
 -- the digits of n say n
-decimal-digits : (fuel n : ℕ) → n ≤ fuel → digits (decimalIn fuel n) ≡ n
+decimal-digits : (fuel n : ℕ) → n ≤ fuel → digitsSay (decimalIn fuel n) ≡ n
 decimal-digits zero n l = omega arith
 decimal-digits (suc fuel) n l = go (ltb n 10) refl (λ h. decimal-digits fuel (n / 10) h)
   where
-    go : (b : Bool) → ltb n 10 ≡ b → (n / 10 ≤ fuel → digits (decimalIn fuel (n / 10)) ≡ n / 10) → digits (cond b ((48 + n) ∷ []) (decimalIn fuel (n / 10) ++ (48 + n % 10) ∷ [])) ≡ n
+    go : (b : Bool) → ltb n 10 ≡ b → (n / 10 ≤ fuel → digitsSay (decimalIn fuel (n / 10)) ≡ n / 10) → digitsSay (cond b ((48 + n) ∷ []) (decimalIn fuel (n / 10) ++ (48 + n % 10) ∷ [])) ≡ n
     go true e more = omega arith
     go false e more = omega (arith, ltb-false n 10 e, digits-snoc (decimalIn fuel (n / 10)) (48 + n % 10), more (omega (arith, ltb-false n 10 e)))
 
@@ -176,20 +173,20 @@ decimal-positive (suc fuel) n z l = go (ltb n 10) refl (λ y h. decimal-positive
         positive-append (decimalIn fuel (n / 10)) (48 + n % 10) (more (omega arith) (omega arith)) (among-le 48 57 (48 + n % 10) (omega arith) (omega arith))
 
 -- a text that begins with 1 to 9 has no minus
-unsigned-text : (t : Text) → isPositive t ≡ true → (isDecimal t ≡ true) × (denotes t ≡ plus (digits t))
+unsigned-text : (t : Text) → isPositive t ≡ true → (isDecimal t ≡ true) × (denotes t ≡ plus (digitsSay t))
 unfolding isDecimal denotes
 unsigned-text [] h = clash (cc)
 unsigned-text (d ∷ ds) h =
-    let a = among-true 49 57 d (both (among 49 57 d) (all isDigit ds) h .0) in
+    let a = among-is 49 57 d (both (among 49 57 d) (all isDigit ds) h .0) in
     let e : eqb d 45 ≡ false = ne-eqb d 45 (λ x. omega (arith, a .0)) in
     rw e (or-right (eqb d 48 && eqb (length ds) 0) h, refl)
 
 -- an integer's text
-written : Whole → Text
+written : Number → Text
 written (plus n) = decimal n
 written (minus n) = 45 ∷ decimal (suc n)
 
-written-right : (n : Whole) → (isDecimal (written n) ≡ true) × (denotes (written n) ≡ n)
+written-right : (n : Number) → (isDecimal (written n) ≡ true) × (denotes (written n) ≡ n)
 unfolding written decimal isDecimal denotes
 written-right (plus zero) = (refl, refl)
 written-right (plus (suc n)) = let p = unsigned-text (decimal (suc n)) (decimal-positive (suc n) (suc n) (omega arith) (omega arith)) in (p .0, p .1 ∙ ap plus (decimal-digits (suc n) (suc n) (omega arith)))

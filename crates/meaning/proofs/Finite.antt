@@ -10,22 +10,14 @@ use lib.ListN.{length, getD, length-map, List·getD-eq-default}
 use lib.Dec.{ltb}
 use borrow.Author.Tests.{ltb-true, ltb-false, lt-ltb}
 use Rattle.scope.specs.Lists.{bit, all, any, flatten}
-use Rattle.scope.specs.Types.{Ref, Ctor, Ty, integer, byteString, opaque, list, tuple, pair, dat, Table, typeAt, fieldsOf, built, ctorsAt, refs, isRef, refsGood, isKnown, hasValue, rounds, allFinite}
+use Rattle.scope.specs.Types.{Ref, Ctor, Ty, integer, byteString, opaque, list, tuple, pair, dat, Table, typeAt, fieldsOf}
+use Rattle.scope.specs.Finite.{refs, isRef, refsGood, isKnown, hasValue, rounds, allFinite}
+use Rattle.scope.specs.Constructors.{built, ctorsAt}
 use Rattle.scope.specs.Blocks.{isSound}
-use Rattle.meaning.specs.Values.{plus, vint, vbytes, vopaque, vcon, Vals, []ᵛ, _∷ᵛ_, HasTypes, noValues, integers, byteStrings, opaques, made}
-use Rattle.meaning.specs.Meaning.{Valued, AllValued, AllRefs, Sound, FiniteRight, SoundRight}
-use Rattle.scope.proofs.Tests.{clash, both, and-true, either, or-left, or-right}
+use Rattle.meaning.specs.Values.{plus, vint, vbytes, vopaque, vcon, Vals, []ᵛ, _∷ᵛ_, HasTypes, Valued, noValues, integers, byteStrings, opaques, made}
+use Rattle.meaning.specs.Meaning.{AllValued, AllRefs, Sound, FiniteRight, SoundRight}
+use Rattle.scope.proofs.Tests.{clash, both, and-true, either, or-left, or-right, all-at, at-all}
 use Rattle.meaning.proofs.Fitting.{types-append}
-
--- a test that every element of a list passes
-all-at : {A : Type 0} (p : A → Bool) (l : List A) (d : A) → all p l ≡ true → (i : ℕ) → i < length l → p (getD l i d) ≡ true
-all-at p [] d h i l = absurd (not-suc-le-zero l)
-all-at p (x ∷ xs) d h zero l = both (p x) (all p xs) h .0
-all-at p (x ∷ xs) d h (suc i) l = all-at p xs d (both (p x) (all p xs) h .1) i (le-of-suc-le-suc l)
-
-at-all : {A : Type 0} (p : A → Bool) (l : List A) (d : A) → ((i : ℕ) → i < length l → p (getD l i d) ≡ true) → all p l ≡ true
-at-all p [] d h = refl
-at-all p (x ∷ xs) d h = and-true (h 0 (omega arith)) (at-all p xs d (λ i l. h (suc i) (omega arith)))
 
 all-append : {A : Type 0} (p : A → Bool) (a b : List A) → all p (a ++ b) ≡ true → (all p a ≡ true) × (all p b ≡ true)
 all-append p [] b h = (refl, h)
@@ -298,14 +290,14 @@ found-valued : (table : Table) (k : ℕ) → all (hasValue (rounds table k)) tab
 found-valued table k h t l = known-valued table (suc k) t (known-suc table k t l ∙ all-at (hasValue (rounds table k)) table opaque h t l)
 
 -- and a round for each type finds every type that has one
+pub type-found : (table : Table) → refsGood table ≡ true → (t : ℕ) → t < length table → Valued table t → hasValue (rounds table (length table)) (typeAt table t) ≡ true
+type-found table good t l v =
+    let r = typed-known table good (v .typed) (and-true (lt-ltb t (length table) l) refl) in
+    let k = enough table (r .0) t l (both (isKnown (rounds table (r .0)) t) true (r .1) .0) in
+    sym (known-suc table (length table) t l) ∙ known-up table (length table) t k
+
 valued-found : (table : Table) → refsGood table ≡ true → AllValued table → all (hasValue (rounds table (length table))) table ≡ true
-valued-found table good valued = at-all (hasValue (rounds table (length table))) table opaque at
-  where
-    at : (t : ℕ) → t < length table → hasValue (rounds table (length table)) (typeAt table t) ≡ true
-    at t l =
-        let r = typed-known table good (valued t l .typed) (and-true (lt-ltb t (length table) l) refl) in
-        let k = enough table (r .0) t l (both (isKnown (rounds table (r .0)) t) true (r .1) .0) in
-        sym (known-suc table (length table) t l) ∙ known-up table (length table) t k
+valued-found table good valued = at-all (hasValue (rounds table (length table))) table opaque (λ t l. type-found table good t l (valued t l))
 
 pub finite-right : FiniteRight
 unfolding allFinite

@@ -9,18 +9,15 @@ use lib.ListN.{length, replicate, length-replicate, List·getD-eq-default}
 use lib.Dec.{ltb, eqb}
 use borrow.Author.Tests.{eqb-true, eq-eqb, ne-eqb, ltb-true, ltb-false}
 use Rattle.scope.specs.Lists.{Text, all, same}
-use Rattle.scope.specs.Types.{Ref, opaque, Table, kind, typeAt, fieldsAt, ctors, arity}
-use Rattle.scope.specs.Patterns.{Literal, int, byteArray, literalKind, sameLiteral, wild, lit, con, Row, Matrix, Typed, TypedRows}
+use Rattle.scope.specs.Types.{Ref, opaque, Table, kind, typeAt}
+use Rattle.scope.specs.Constructors.{fieldsAt, ctors, arity}
+use Rattle.scope.specs.Simplify.{Literal, int, byteArray, sameLiteral, wild, lit, con, Row, Matrix}
+use Rattle.laws.specs.Typed.{literalKind, Typed, TypedRows}
 use Rattle.scope.specs.Walks.{rowIf, specializeRowByCtor, specializeRowByLiteral, specializeRowByWildcard, specializeByCtor, specializeByLiteral, specializeByWildcard, seen}
-use Rattle.meaning.specs.Values.{Whole, plus, minus, denotes, sameWhole, Val, vint, vbytes, vopaque, vcon, Vals, []ᵛ, _∷ᵛ_, _++ᵛ_, isByte, HasTypes, noValues, integers, byteStrings, opaques, made, literalFits, fits, fitsAny, isAdmitted, admits}
-use Rattle.meaning.specs.Meaning.{Valued, AllValued}
+use Rattle.meaning.specs.Values.{Number, plus, minus, denotes, sameWhole, Val, vint, vbytes, vopaque, vcon, Vals, []ᵛ, _∷ᵛ_, _++ᵛ_, lengthᵛ, isByte, HasTypes, Valued, noValues, integers, byteStrings, opaques, made, literalFits, fits, fitsAny, isAdmitted, admits}
+use Rattle.meaning.specs.Meaning.{AllValued}
 use Rattle.scope.proofs.Tests.{clash, both, either, or-left, or-right, neither, or-false, not-passed, same-true, same-self}
 use Rattle.meaning.proofs.Decimals.{decimal-same}
-
--- how many values
-abbrev pub lengthᵛ : Vals → ℕ
-lengthᵛ []ᵛ = 0
-lengthᵛ (v ∷ᵛ vs) = suc (lengthᵛ vs)
 
 or-none : (b : Bool) → (b || false) ≡ b
 or-none true = refl
@@ -59,13 +56,13 @@ abbrev pub valueOf : Literal → Val
 valueOf (int t) = vint (denotes t)
 valueOf (byteArray t) = vbytes t
 
-whole-true : (m n : Whole) → sameWhole m n ≡ true → m ≡ n
+whole-true : (m n : Number) → sameWhole m n ≡ true → m ≡ n
 whole-true (plus m) (plus n) h = ap plus (eqb-true m n h)
 whole-true (plus m) (minus n) h = clash (cc)
 whole-true (minus m) (plus n) h = clash (cc)
 whole-true (minus m) (minus n) h = ap minus (eqb-true m n h)
 
-whole-self : (n : Whole) → sameWhole n n ≡ true
+whole-self : (n : Number) → sameWhole n n ≡ true
 whole-self (plus n) = eq-eqb n n refl
 whole-self (minus n) = eq-eqb n n refl
 
@@ -188,7 +185,7 @@ wild-unfit m v vs h = not-passed (fitsAny (specializeByWildcard m) vs) (λ k. le
 
 -- Typed values
 module _ {table : Table} where
-  types-length : {ts : List Ref} {vs : Vals} → HasTypes table ts vs → lengthᵛ vs ≡ length ts
+  pub types-length : {ts : List Ref} {vs : Vals} → HasTypes table ts vs → lengthᵛ vs ≡ length ts
   types-length noValues = refl
   types-length (integers e h) = ap suc (types-length h)
   types-length (byteStrings e b h) = ap suc (types-length h)
@@ -259,7 +256,7 @@ fill all [] = ([]ᵛ, noValues)
 fill all (t ∷ ts) = let a = valued-at all t in let b = fill all ts in (a .value ∷ᵛ b .0, types-append (a .typed) (b .1))
 
 -- A value that the first column does not name: larger than all of its literals together
-abbrev wholeSize : Whole → ℕ
+abbrev wholeSize : Number → ℕ
 wholeSize (plus n) = n
 wholeSize (minus n) = 0
 
@@ -274,7 +271,7 @@ bound ((wild ∷ r) ∷ m) = bound m
 bound ((lit l ∷ r) ∷ m) = literalSize l + bound m
 bound ((con t d ∷ r) ∷ m) = bound m
 
-large-unlike : (w : Whole) (b : ℕ) → wholeSize w ≤ b → sameWhole w (plus (suc b)) ≡ false
+large-unlike : (w : Number) (b : ℕ) → wholeSize w ≤ b → sameWhole w (plus (suc b)) ≡ false
 large-unlike (plus n) b h = ne-eqb n (suc b) (λ e. omega arith)
 large-unlike (minus n) b h = refl
 

@@ -10,10 +10,12 @@ use lib.ListN.{length, getD, replicate, length-append, replicate-append-replicat
 use lib.Dec.{eqb}
 use borrow.Author.Tests.{eqb-true, eq-eqb}
 use Rattle.scope.specs.Lists.{all}
-use Rattle.scope.specs.Types.{Ref, Ctor, Table, built, fieldsOf, fieldsAt, ctors, alts, arity}
-use Rattle.scope.specs.Patterns.{wild, lit, con, Row, Matrix, Typed, TypedRows}
+use Rattle.scope.specs.Types.{Ref, Ctor, Table, fieldsOf}
+use Rattle.scope.specs.Constructors.{built, fieldsAt, ctors, alts, arity}
+use Rattle.scope.specs.Simplify.{wild, lit, con, Row, Matrix}
+use Rattle.laws.specs.Typed.{Typed, TypedRows}
 use Rattle.scope.specs.Walks.{rowIf, specializeRowByCtor, specializeRowByWildcard, eachRow, specializeByCtor, specializeByWildcard, seen, Column, column, Walk, unseen, gather, missingColumn, collectMissingStep, collectMissingIn, cost, collectMissingPatterns}
-use Rattle.meaning.specs.Values.{Whole, Val, vint, vbytes, vopaque, vcon, Vals, _∷ᵛ_, _++ᵛ_, HasTypes, noValues, integers, byteStrings, opaques, made, fits, fitsAny, isPlain}
+use Rattle.meaning.specs.Values.{Number, Val, vint, vbytes, vopaque, vcon, Vals, _∷ᵛ_, _++ᵛ_, HasTypes, noValues, integers, byteStrings, opaques, made, fits, fitsAny, isPlain}
 use Rattle.meaning.specs.Meaning.{AllValued, Witness}
 use Rattle.scope.proofs.Tests.{clash, both, and-true, not-failed}
 use Rattle.laws.proofs.Costs.{wildcard-weigh, seen-weigh, default-cost, ctor-cost, arity-narrow}
@@ -216,7 +218,7 @@ plain-ctor c a m h = plain-each (specializeRowByCtor c a) by m h
     by (lit l ∷ r) h = clash (cc)
     by (con t d ∷ r) h = test (eqb d c) r h
 
-plain-int : (m : Matrix) (n : Whole) → all (all isPlain) m ≡ true → named m (vint n) ≡ false
+plain-int : (m : Matrix) (n : Number) → all (all isPlain) m ≡ true → named m (vint n) ≡ false
 plain-int [] n h = refl
 plain-int ([] ∷ m) n h = plain-int m n h
 plain-int ((wild ∷ r) ∷ m) n h = plain-int m n (both (all isPlain r) (all (all isPlain) m) h .1)

@@ -11,8 +11,8 @@ use borrow.Author.Tests.{leb-true, leb-false, lt-ltb}
 use Rattle.scope.specs.Limits.{maxDigits}
 use Rattle.scope.specs.Lists.{Text, all, among}
 use Rattle.scope.specs.Lines.{Line, ended, cut, isHex, hex, unhex, isLine, bytesOf}
-use Rattle.scope.specs.Patterns.{Raw, discard, variable, assign, pairOf, number, string, listOf, constructor, tupleOf, inner}
-use Rattle.scope.specs.Frames.{Read, fault, found, Reader, andThen, _>>=_, give, byte, passing, flag, times, choosing, judging, text, smallName, isDecimal, patternKinds, pattern, patternsIn, patterns}
+use Rattle.scope.specs.Patterns.{Raw, discard, variable, assign, pairOf, integerOf, byteStringOf, listOf, constructor, tupleOf, inner}
+use Rattle.scope.specs.Frames.{Read, fault, found, Reader, andThen, _>>=_, give, byte, passing, flag, times, choosing, onlyIf, textFrom, smallName, isDecimal, patternKinds, pattern, patternsIn, patterns}
 use Rattle.meaning.specs.Values.{isByte}
 use Rattle.scope.proofs.Tests.{clash, both, and-true, either}
 use Rattle.laws.proofs.Reading.{Every, every-at}
@@ -82,7 +82,7 @@ times-reads : {A : Type 0} {p : A → Bool} {r : Reader A} (n : ℕ) → Reads (
 times-reads zero h = give-reads [] refl
 times-reads (suc n) h = bind-reads h (λ a x. bind-reads (times-reads n h) (λ l y. give-reads (a ∷ l) (and-true x y)))
 
-judging-reads : {A : Type 0} {P : A → Type 0} {r : Reader A} (good : A → Bool) → Reads P r → Reads (λ a. P a × (good a ≡ true)) (judging good r)
+judging-reads : {A : Type 0} {P : A → Type 0} {r : Reader A} (good : A → Bool) → Reads P r → Reads (λ a. P a × (good a ≡ true)) (onlyIf good r)
 judging-reads {A} {P} {r} good h = record { at = λ bs g. go bs (r bs) (h .at bs g) }
   where
     test : (bs rest : List ℕ) (a : A) → P a → all isByte rest ≡ true → (x : Bool) → good a ≡ x → Gives (λ a. P a × (good a ≡ true)) (cond x (found a rest) (fault bs))
@@ -96,7 +96,7 @@ judging-reads {A} {P} {r} good h = record { at = λ bs g. go bs (r bs) (h .at bs
 flag-reads : Reads (λ b. Unit {0}) flag
 flag-reads = bind-reads (passing-reads (among 0 1)) (λ b x. give-reads _ tt)
 
-text-reads : (lo : ℕ) (good : Text → Bool) → Reads (λ t. (all isByte t ≡ true) × (good t ≡ true)) (text lo good)
+text-reads : (lo : ℕ) (good : Text → Bool) → Reads (λ t. (all isByte t ≡ true) × (good t ≡ true)) (textFrom lo good)
 text-reads lo good = bind-reads (passing-reads (among lo 64)) (λ n x. judging-reads good (times-reads n byte-reads))
 
 small-reads : Reads (λ t. Unit {0}) smallName
@@ -106,11 +106,11 @@ small-reads = bind-reads (passing-reads (among 1 32)) (λ n x. bind-reads (passi
 -- a literal as written is as a file has it
 abbrev pub goodRaw : Raw → Bool
 goodRaw discard = true
-goodRaw variable = true
-goodRaw assign = true
+goodRaw (variable n) = true
+goodRaw (assign n) = true
 goodRaw pairOf = true
-goodRaw (number t) = isDecimal t
-goodRaw (string t) = all isByte t
+goodRaw (integerOf t) = isDecimal t
+goodRaw (byteStringOf t) = all isByte t
 goodRaw (listOf k tail) = true
 goodRaw (constructor c k spread) = true
 goodRaw (tupleOf k) = true
@@ -129,13 +129,13 @@ kinds-read : Every GoodReader patternKinds
 kinds-read = (
   give-reads discard refl,
   (
-    named variable refl,
+    named variable (λ n. refl),
     (
-      named assign refl,
+      named assign (λ n. refl),
       (
-        bind-reads (text-reads 1 isDecimal) (λ t x. give-reads (number t) (x .1)),
+        bind-reads (text-reads 1 isDecimal) (λ t x. give-reads (integerOf t) (x .1)),
         (
-          bind-reads (text-reads 0 (λ t. true)) (λ t x. give-reads (string t) (x .0)),
+          bind-reads (text-reads 0 (λ t. true)) (λ t x. give-reads (byteStringOf t) (x .0)),
           (aList, (aCtor, (give-reads pairOf refl, (bind-reads byte-reads (λ k x. give-reads (tupleOf k) refl), tt)))),
         ),
       ),
@@ -143,8 +143,8 @@ kinds-read = (
   ),
 )
   where
-    named : (p : Raw) → goodRaw p ≡ true → GoodReader (smallName >>= λ n. give p)
-    named p h = bind-reads small-reads (λ n x. give-reads p h)
+    named : (p : Text → Raw) → ((n : Text) → goodRaw (p n) ≡ true) → GoodReader (smallName >>= λ n. give (p n))
+    named p h = bind-reads small-reads (λ n x. give-reads (p n) (h n))
 
     aList : GoodReader (getD patternKinds 5 (λ bs. fault bs))
     aList = bind-reads byte-reads (λ k x. bind-reads flag-reads (λ tail y. give-reads (listOf k tail) refl))

@@ -9,8 +9,9 @@ use lib.ListN.{length, getD, replicate, length-append}
 use lib.Dec.{eqb}
 use borrow.Author.Tests.{eqb-true, ne-eqb, eq-eqb}
 use Rattle.scope.specs.Lists.{bit}
-use Rattle.scope.specs.Types.{Ref, Ctor, Table, built, fieldsOf, fieldsAt, ctors, alts, arity}
-use Rattle.scope.specs.Patterns.{wild, con, Row, Matrix}
+use Rattle.scope.specs.Types.{Ref, Ctor, Table, fieldsOf}
+use Rattle.scope.specs.Constructors.{built, fieldsAt, ctors, alts, arity}
+use Rattle.scope.specs.Simplify.{wild, con, Row, Matrix}
 use Rattle.scope.specs.Walks.{eachRow, specializeByCtor, specializeByWildcard, seen, Column, column, Walk, unseen, missingColumn, collectMissingStep, collectMissingIn, cost, collectMissingPatterns}
 use Rattle.meaning.specs.Values.{Val, vcon, Vals, []ᵛ, _∷ᵛ_, _++ᵛ_, HasTypes, noValues, integers, byteStrings, opaques, made, fits}
 use Rattle.scope.proofs.Tests.{clash}

@@ -10,9 +10,11 @@ use Rattle.scope.specs.Limits.{maxNodes}
 use Rattle.scope.specs.Lists.{all, any}
 use Rattle.scope.specs.Lines.{Line, isLine, bytesOf}
 use Rattle.scope.specs.Types.{Ref, Ctor, Ty, kind, Table}
-use Rattle.scope.specs.Patterns.{Row, Matrix, Typed, TypedRows, noRows, also, Raw, simplify}
+use Rattle.scope.specs.Patterns.{Raw}
+use Rattle.scope.specs.Simplify.{Row, Matrix, simplify}
+use Rattle.laws.specs.Typed.{Typed, TypedRows, noRows, also}
 use Rattle.scope.specs.Frames.{Read, fault, found, andThen, give, byte, typeFrame, constructorFrame, patterns, Frame, typeOf, constructorOf, subjectOf, clauseOf, end, isKind, frame}
-use Rattle.scope.specs.Blocks.{Block, Phase, types, constructors, clauses, closed, standing, State, start, Step, ok, refuse, _>>=_, need, wholly, suited, nodesIn, stands, hasRoom, isFresh, isSound, enter, framed, line, parsed, finish, goOn, parse, blockOf}
+use Rattle.scope.specs.Blocks.{Block, Phase, types, constructors, clauses, closed, standing, State, start, Step, ok, refuse, _>>=_, need, wholly, suited, nodesIn, stands, hasRoom, isFresh, isSound, enter, framed, lineStep, parsed, finish, goOn, parse, blockOf}
 use Rattle.meaning.specs.Values.{isByte, admits}
 use Rattle.scope.proofs.Tests.{clash, both, and-true}
 use Rattle.laws.proofs.Typing.{simplify-typed}
@@ -123,8 +125,8 @@ framed-kept s (k ∷ bs) g h =
     kept-need 6 (hasRoom (s .block) k) _ (λ _.
     kept-wholly (frame k bs) _ (λ f e. enter-kept s k f st h (frame-held k bs f (both (isByte k) (all isByte bs) g .1) e)))))
 
-line-kept : (s : State) (l : Line) → Holds (s .phase) (s .block) → Kept (line s l)
-unfolding line
+line-kept : (s : State) (l : Line) → Holds (s .phase) (s .block) → Kept (lineStep s l)
+unfolding lineStep
 line-kept s l h = kept-need 3 (isLine l) _ (λ i. framed-kept s (bytesOf l) (line-bytes l i) h)
 
 finish-good : (k : ℕ) (p : Phase) (c b : Block) → Holds p c → finish k (record { phase = p; block = c }) ≡ parsed b → Good b
@@ -136,7 +138,7 @@ finish-good k closed c b h e = let i : c ≡ b = cc in rw (← i) h
 parse-good : (ls : List Line) (k : ℕ) (s : State) (b : Block) → Holds (s .phase) (s .block) → parse k s ls ≡ parsed b → Good b
 unfolding parse
 parse-good [] k s b h e = finish-good k (s .phase) (s .block) b h e
-parse-good (l ∷ ls) k s b h e = go (line s l) (line-kept s l h) e (λ s′ h′ e′. parse-good ls (suc k) s′ b h′ e′)
+parse-good (l ∷ ls) k s b h e = go (lineStep s l) (line-kept s l h) e (λ s′ h′ e′. parse-good ls (suc k) s′ b h′ e′)
   where
     go : (x : Step State) → Kept x → goOn k x (λ s′. parse (suc k) s′ ls) ≡ parsed b → ((s′ : State) → Holds (s′ .phase) (s′ .block) → parse (suc k) s′ ls ≡ parsed b → Good b) → Good b
     go (ok s′) h′ e′ more = more s′ h′ e′

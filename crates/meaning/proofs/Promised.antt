@@ -1,4 +1,4 @@
--- Every file that gets a report has the promises, and its report says the findings. Document 01's example is such a file.
+-- Every file that gets a report has the promises, and its report says the findings, from what the walks and refusal 7 mean and from how a file is read.
 use mathlib.Core.Path.{_≡_, refl, ap, sym, _∙_}
 use mathlib.Core.Logic.{_↔_}
 use mathlib.Core.List.{List, [], _∷_, _++_, append-assoc, append-nil}
@@ -8,21 +8,22 @@ use native.Mathlib.Nat.{le-of-suc-le-suc, not-suc-le-zero}
 use native.Mathlib.Omega.{arith}
 use lib.ListN.{length, getD, take}
 use lib.Dec.{leb, ltb}
-use Rattle.answers.specs.declared.Answer.the-variants.{Report}
-use Rattle.scope.specs.Limits.{scratchCells, maxFile, reportBytes}
-use Rattle.scope.specs.Lists.{Text, all, bytes}
+use Rattle.scope.specs.declared.Answer.the-variants.{Report}
+use Rattle.scope.specs.Limits.{scratchCells, maxFile}
+use Rattle.scope.specs.Lists.{Text, all}
 use Rattle.scope.specs.Lines.{lines}
 use Rattle.scope.specs.Types.{Ref, Table}
-use Rattle.scope.specs.Patterns.{Matrix, Typed, TypedRows}
+use Rattle.scope.specs.Simplify.{Matrix}
+use Rattle.laws.specs.Typed.{Typed, TypedRows}
 use Rattle.scope.specs.Walks.{isUseful}
 use Rattle.scope.specs.Blocks.{Block, Parsed, parsed, faulty, blockOf}
-use Rattle.scope.specs.Report.{judged, findings, tooMuch, yeses, noes, report}
-use Rattle.answers.specs.Answer.{Outcome, fitted, refused, walked, judgedIn, outcome, answer, reportText}
+use Rattle.scope.specs.Driver.{judged, findings, verdicts, tooMuch}
+use Rattle.scope.specs.Report.{yeses, noes, report}
+use Rattle.scope.specs.Answer.{Outcome, fitted, refused, walked, outcomeOf, outcome, answer, reportText}
 use Rattle.meaning.specs.Values.{admits}
 use Rattle.meaning.specs.Meaning.{Witness, Sound}
-use Rattle.meaning.specs.Promises.{verdicts, Promises, Promised, SaysFindings}
+use Rattle.meaning.specs.Rows.{Promises, Promised, SaysFindings}
 use Rattle.scope.proofs.Tests.{clash, both, and-true}
-use Rattle.answers.proofs.Compute.{answering}
 use Rattle.meaning.proofs.Fitting.{AllSuit, all-suit}
 use Rattle.meaning.proofs.Usefulness.{useful-right}
 use Rattle.meaning.proofs.Gaps.{each-at, missing-typed, missing-plain, missing-witness, missing-apart, missing-none}
@@ -56,8 +57,8 @@ walked-behind room n b h = go (tooMuch (findings b)) h
     go true e = clash (cc)
     go false e = fitted-behind room n b e
 
-judged-behind : (room n : ℕ) (p : Parsed) → judgedIn room p .answer ≡ Report n → Behind (judgedIn room p) p n
-unfolding judgedIn
+judged-behind : (room n : ℕ) (p : Parsed) → outcomeOf room p .answer ≡ Report n → Behind (outcomeOf room p) p n
+unfolding outcomeOf
 judged-behind room n (parsed b) h = walked-behind room n b h
 judged-behind room n (faulty m k) h = clash (cc)
 
@@ -69,7 +70,7 @@ unless o q n m k false h e = h e
 outcome-behind : (file : List ℕ) (cells room n : ℕ) → outcome file cells room .answer ≡ Report n → Behind (outcome file cells room) (blockOf (lines file)) n
 unfolding outcome
 outcome-behind file cells room n h =
-    let read = judgedIn room (blockOf (lines file)) in
+    let read = outcomeOf room (blockOf (lines file)) in
     let sized = cond (ltb maxFile (length file)) (refused 2 0) read in
     unless sized (blockOf (lines file)) n 1 0 (ltb cells scratchCells) (unless read (blockOf (lines file)) n 2 0 (ltb maxFile (length file)) (judged-behind room n (blockOf (lines file)))) h
 
@@ -153,16 +154,3 @@ counted b = verdicts-add (verdicts b) ∙ judged-length (b .table) [] (b .rows)
 pub reported : SaysFindings
 unfolding answer reportText
 reported file cells room n h = let o = outcome-behind file cells room n h in record { block = o .block; says = o .says; text = o .text; long = o .long; counted = counted (o .block) }
-
--- document 01's example: a list of Red or Blue; clauses [], [Red, ..], []
-abbrev pub example : List ℕ
-example = bytes "010301\n0106\n02035265640000\n0204426c75650000\n0300\n04050000\n040501010600000000\n04050000\n05\n"
-
--- it gets a report of 130 bytes
-pub example-report : answer example scratchCells reportBytes ≡ Report 130
-unfolding answering answer
-example-report = refl
-
--- so the promises hold of it
-pub example-promises : Promises example
-example-promises = promises example scratchCells reportBytes 130 example-report

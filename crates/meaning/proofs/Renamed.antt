@@ -2,22 +2,25 @@
 use mathlib.Core.Path.{_≡_, refl, ap, ap₂, sym, subst, subst₂, _∙_}
 use mathlib.Core.List.{List, [], _∷_, _++_, map, map-append}
 use mathlib.Core.Bool.{Bool, true, false}
-use mathlib.Core.Option.{Option, none, some}
+use mathlib.Core.Option.{Option, none, some, Option·map}
 use Prim.Native.Nat.{ℕ, suc, _+_}
 use lib.ListN.{length, List·getD-map}
 use lib.Dec.{leb}
-use Rattle.answers.specs.declared.Answer.the-variants.{Report}
+use Rattle.scope.specs.declared.Answer.the-variants.{Report}
 use Rattle.scope.specs.Lists.{bytes}
 use Rattle.scope.specs.Limits.{maxNodes}
-use Rattle.scope.specs.Lines.{Line, lines, isLine, bytesOf}
-use Rattle.scope.specs.Types.{Ref, Ctor, Ty, integer, byteString, opaque, list, tuple, pair, dat, Table, typeAt, kind, fieldsOf, built, ctorsAt, alts, declared, addCtor}
-use Rattle.scope.specs.Patterns.{Raw, Row, Matrix, simplify}
+use Rattle.scope.specs.Lines.{Line, isLine, bytesOf}
+use Rattle.scope.specs.Types.{Ref, Ctor, Ty, integer, byteString, opaque, list, tuple, pair, dat, Table, typeAt, kind, fieldsOf, declared, addCtor}
+use Rattle.scope.specs.Constructors.{built, ctorsAt, alts}
+use Rattle.scope.specs.Patterns.{Raw}
+use Rattle.scope.specs.Simplify.{Row, Matrix, Item, put, pat, opened, putting, simplified, simplify}
+use Rattle.scope.specs.Simplify as patterns
 use Rattle.scope.specs.Walks.{Walk, collectMissingPatterns}
 use Rattle.scope.specs.Frames.{Read, found, Frame, isKind, frame}
-use Rattle.scope.specs.Blocks.{Block, Phase, types, constructors, clauses, closed, State, start, Step, ok, refuse, _>>=_, need, wholly, suited, nodesIn, stands, hasRoom, isFresh, isSound, withRow, enter, framed, line, Parsed, parsed, faulty, finish, goOn, parse, blockOf}
-use Rattle.scope.specs.Report.{judged, Findings, findings}
-use Rattle.answers.specs.Answer.{answer}
-use Rattle.meaning.specs.Renamed.{SameFrame, sameType, sameCtor, sameSubject, sameClause, sameEnd, Says, SameLine, sameLine, SameLines, noLines, alsoLine, Renamed, SameVerdicts, SameReports}
+use Rattle.scope.specs.Blocks.{Block, Phase, types, constructors, clauses, closed, State, start, Step, ok, refuse, _>>=_, need, wholly, suited, nodesIn, stands, hasRoom, isFresh, isSound, withRow, enter, framed, lineStep, parsed, finish, goOn, parse, blockOf}
+use Rattle.scope.specs.Driver.{judged, Findings, findings}
+use Rattle.scope.specs.Answer.{answer}
+use Rattle.meaning.specs.Renamed.{SamePattern, samePattern, sameVariable, sameAssign, SamePatterns, noPatterns, alsoPattern, SameFrame, sameType, sameCtor, sameSubject, sameClause, sameEnd, SaysFrame, SameLine, sameLine, SameLines, noLines, alsoLine, Renamed, SameVerdicts, SameReports}
 use Rattle.scope.proofs.Tests.{clash}
 use Rattle.scope.proofs.Compute.{compute}
 use Rattle.meaning.proofs.Promised.{reported}
@@ -112,13 +115,37 @@ need-ok : {A : Type 0} (n : ℕ) (x : Bool) (f : Unit {0} → Step A) (a : A) �
 need-ok n true f a e = e
 need-ok n false f a e = clash (cc)
 
-line-enters : (s s₁ : State) {l : Line} {k : ℕ} {f : Frame} → Says l k f → line s l ≡ ok s₁ → enter (s .block) f ≡ ok s₁
-unfolding line framed
+line-enters : (s s₁ : State) {l : Line} {k : ℕ} {f : Frame} → SaysFrame l k f → lineStep s l ≡ ok s₁ → enter (s .block) f ≡ ok s₁
+unfolding lineStep framed
 line-enters s s₁ {l} {k} {f} w e =
     let a : framed s (bytesOf l) ≡ ok s₁ = need-ok 3 (isLine l) _ s₁ e in
     let b : framed s (k ∷ w .rest) ≡ ok s₁ = subst (λ (bs : List ℕ). framed s bs ≡ ok s₁) (w .kindFirst) a in
     let c = need-ok 6 (hasRoom (s .block) k) _ s₁ (need-ok 5 (stands s k) _ s₁ (need-ok 4 (isKind k) _ s₁ b)) in
     subst (λ (x : Read Frame). (wholly x >>= λ g. enter (s .block) g) ≡ ok s₁) (w .whole) c
+
+-- no variable's name reaches a row
+opened-names : (table : Table) (t : Ref) {p p′ : Raw} → SamePattern p p′ → opened table t p ≡ opened table t p′
+opened-names table t samePattern = refl
+opened-names table t sameVariable = refl
+opened-names table t sameAssign = refl
+
+simplified-names : (table : Table) (is : List Item) {ps ps′ : List Raw} → SamePatterns ps ps′ → simplified table is ps ≡ simplified table is ps′
+unfolding simplified
+simplified-names table is noPatterns = refl
+simplified-names table is (alsoPattern {p = p} {p′ = p′} {ps = ps} {ps′ = ps′} same more) = putting-same is (λ t rest. ap (λ (o : Option (List Item)). patterns._>>=_ o (λ new. simplified table (new ++ rest) ps)) (opened-names table t same) ∙ then (opened table t p′) rest (λ js. simplified-names table js more))
+  where
+    then : (o : Option (List Item)) (rest : List Item) → ((js : List Item) → simplified table js ps ≡ simplified table js ps′) → patterns._>>=_ o (λ new. simplified table (new ++ rest) ps) ≡ patterns._>>=_ o (λ new. simplified table (new ++ rest) ps′)
+    then none rest k = refl
+    then (some new) rest k = k (new ++ rest)
+
+    putting-same : (is : List Item) {f g : Ref → List Item → Option Row} → ((t : Ref) (rest : List Item) → f t rest ≡ g t rest) → putting is f ≡ putting is g
+    putting-same [] h = refl
+    putting-same (put n ∷ is) h = ap (Option·map (n ∷_)) (putting-same is h)
+    putting-same (pat t ∷ is) h = h t is
+
+simplify-names : (table : Table) (t : Ref) {ps ps′ : List Raw} → SamePatterns ps ps′ → simplify table t ps ≡ simplify table t ps′
+unfolding simplify
+simplify-names table t same = simplified-names table (pat t ∷ []) same
 
 -- a clause's row goes below the others
 added : Block → Option Row → Step State
@@ -150,7 +177,7 @@ module _ (b b′ : Block) (h : SameBlock b b′) (s s′ : State) where
       (record { tables = add-nameless (b .table) c ∙ ap₂ addCtor (h .tables) (ap (built []) k) ∙ sym (add-nameless (b′ .table) d); subjects = refl; rows = refl })
   enter-same (sameSubject {t = t}) e e′ =
       onward _ _ (need-ok 7 (isSound (b .table) t) _ s e) (need-ok 7 (isSound (b′ .table) t) _ s′ e′) (record { tables = h .tables; subjects = refl; rows = refl })
-  enter-same (sameClause {ps = ps}) e e′ = added-same (simplify (b .table) (b .subject) ps) e (subst (λ (o : Option Row). added b′ o ≡ ok s′) (sym (rows-read ps)) e′)
+  enter-same (sameClause {ps = ps} {ps′ = ps′} same) e e′ = added-same (simplify (b .table) (b .subject) ps) e (subst (λ (o : Option Row). added b′ o ≡ ok s′) (sym (rows-read ps ∙ simplify-names (b′ .table) (b′ .subject) same)) e′)
   enter-same sameEnd e e′ = onward _ _ e e′ h
 
 -- a file that is read whole ends with the block of its last state
@@ -164,9 +191,9 @@ parse-same : {ls ls′ : List Line} (k k′ : ℕ) (s s′ : State) (b b′ : Bl
 unfolding parse
 parse-same k k′ s s′ b b′ noLines h e e′ = subst₂ SameBlock (finish-block k (s .phase) (s .block) b e) (finish-block k′ (s′ .phase) (s′ .block) b′ e′) h
 parse-same k k′ s s′ b b′ (alsoLine {l = l} {l′ = l′} {ls = ls} {ls′ = ls′} (sameLine says says′ same) more) h e e′ =
-    step (line s l) (line s′ l′) refl refl e e′ (λ s₁ s₁′ g i i′. parse-same (suc k) (suc k′) s₁ s₁′ b b′ more g i i′)
+    step (lineStep s l) (lineStep s′ l′) refl refl e e′ (λ s₁ s₁′ g i i′. parse-same (suc k) (suc k′) s₁ s₁′ b b′ more g i i′)
   where
-    step : (x x′ : Step State) → line s l ≡ x → line s′ l′ ≡ x′ → goOn k x (λ s₁. parse (suc k) s₁ ls) ≡ parsed b → goOn k′ x′ (λ s₁. parse (suc k′) s₁ ls′) ≡ parsed b′
+    step : (x x′ : Step State) → lineStep s l ≡ x → lineStep s′ l′ ≡ x′ → goOn k x (λ s₁. parse (suc k) s₁ ls) ≡ parsed b → goOn k′ x′ (λ s₁. parse (suc k′) s₁ ls′) ≡ parsed b′
         → ((s₁ s₁′ : State) → SameBlock (s₁ .block) (s₁′ .block) → parse (suc k) s₁ ls ≡ parsed b → parse (suc k′) s₁′ ls′ ≡ parsed b′ → SameBlock b b′) → SameBlock b b′
     step (ok s₁) (ok s₁′) i i′ j j′ deeper = deeper s₁ s₁′ (enter-same (s .block) (s′ .block) h s₁ s₁′ same (line-enters s s₁ says i) (line-enters s′ s₁′ says′ i′)) j j′
     step (ok s₁) (refuse n) i i′ j j′ deeper = clash (cc)
@@ -218,5 +245,5 @@ renamed-P8 =
           (alsoLine (both-say 1 _ _ refl refl refl refl refl refl sameType)
           (alsoLine (both-say 2 _ _ refl refl refl refl refl refl (sameCtor refl refl))
           (alsoLine (both-say 3 _ _ refl refl refl refl refl refl sameSubject)
-          (alsoLine (both-say 4 _ _ refl refl refl refl refl refl sameClause) (alsoLine (both-say 5 _ _ refl refl refl refl refl refl sameEnd) noLines))))))));
+          (alsoLine (both-say 4 _ _ refl refl refl refl refl refl (sameClause (alsoPattern samePattern (alsoPattern samePattern (alsoPattern sameVariable noPatterns))))) (alsoLine (both-say 5 _ _ refl refl refl refl refl refl sameEnd) noLines))))))));
     }

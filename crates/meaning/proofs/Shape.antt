@@ -6,11 +6,13 @@ use mathlib.Core.Option.{Option, none, some, Option·map}
 use Prim.Native.Nat.{ℕ, zero, suc, _+_, _*_}
 use native.Mathlib.Omega.{arith}
 use lib.ListN.{length, getD, length-map, List·getD-map}
-use Rattle.scope.specs.Types.{Ref, Table, typeAt, kind, fieldsOf, built, ctors, fieldsAt, arity, alts}
-use Rattle.scope.specs.Patterns.{wild, lit, con, Row, Matrix, Raw, discard, variable, assign, pairOf, number, string, listOf, constructor, tupleOf, Item, put, pat, opened, putting, _>>=_, simplified, simplify}
+use Rattle.scope.specs.Types.{Ref, Table, typeAt, kind, fieldsOf}
+use Rattle.scope.specs.Constructors.{built, ctors, fieldsAt, arity, alts}
+use Rattle.scope.specs.Patterns.{Raw, discard, variable, assign, pairOf, integerOf, byteStringOf, listOf, constructor, tupleOf}
+use Rattle.scope.specs.Simplify.{wild, lit, con, Row, Matrix, Item, put, pat, opened, putting, _>>=_, simplified, simplify}
 use Rattle.scope.specs.Walks.{specializeByCtor, Column, bare, part, full, columnType, columnAt, column, Walk, holding, tryEach, gather, unseen, eachRow, turned, specializeByWildcard}
 use Rattle.scope.specs.Walks.{usefulWild, usefulHead, isUsefulStep, isUsefulIn, missingColumn, collectMissingStep, collectMissingIn, cost, isUseful, collectMissingPatterns}
-use Rattle.scope.specs.Report.{judged}
+use Rattle.scope.specs.Driver.{judged}
 use Rattle.laws.proofs.Steps.{useful-fuel, missing-fuel}
 
 -- a constructor's field types stand among its type's alternatives
@@ -102,11 +104,11 @@ module _ (table table′ : Table) (same-alts : (t : Ref) → alts table t ≡ al
 
     opened-same : (t : Ref) (p : Raw) → opened table t p ≡ opened table′ t p
     opened-same t discard = refl
-    opened-same t variable = refl
-    opened-same t assign = refl
+    opened-same t (variable n) = refl
+    opened-same t (assign n) = refl
     opened-same t pairOf = rw (same-kinds t, fields-same t 0)
-    opened-same t (number n) = rw (same-kinds t)
-    opened-same t (string s) = rw (same-kinds t)
+    opened-same t (integerOf n) = rw (same-kinds t)
+    opened-same t (byteStringOf s) = rw (same-kinds t)
     opened-same t (listOf k tail) = rw (same-kinds t, fields-same t 0)
     opened-same t (constructor c k spread) = rw (same-kinds t, count-same t, fields-same t c)
     opened-same t (tupleOf k) = rw (same-kinds t, fields-same t 0)

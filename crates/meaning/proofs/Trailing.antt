@@ -9,8 +9,9 @@ use native.Mathlib.Omega.{arith}
 use lib.ListN.{length, getD, replicate, length-append, List·getD-map}
 use lib.Dec.{eqb}
 use borrow.Author.Tests.{eqb-true}
-use Rattle.scope.specs.Types.{Ref, Table, fieldsOf, fieldsAt, built, ctors, alts, arity}
-use Rattle.scope.specs.Patterns.{Literal, sameLiteral, wild, lit, con, Row, Matrix}
+use Rattle.scope.specs.Types.{Ref, Table, fieldsOf}
+use Rattle.scope.specs.Constructors.{fieldsAt, built, ctors, alts, arity}
+use Rattle.scope.specs.Simplify.{Literal, sameLiteral, wild, lit, con, Row, Matrix}
 use Rattle.scope.specs.Walks.{rowIf, specializeRowByCtor, specializeRowByLiteral, specializeRowByWildcard, eachRow, specializeByCtor, specializeByLiteral, specializeByWildcard, beginsWith, seen, allSeen, columnType, Column, bare, part, full, columnAt, column}
 use Rattle.scope.specs.Walks.{Walk, plain, holding, tryEach, usefulWild, usefulHead, isUsefulStep, isUsefulIn, cost, isUseful, unseen, gather, missingColumn, collectMissingStep, collectMissingIn, collectMissingPatterns}
 use Rattle.scope.proofs.Tests.{clash}

@@ -9,8 +9,10 @@ use native.Mathlib.Omega.{arith}
 use lib.ListN.{length, getD, replicate, length-append}
 use lib.Dec.{eqb}
 use borrow.Author.Tests.{eqb-true, eq-eqb}
-use Rattle.scope.specs.Types.{Ref, Ctor, Ty, integer, byteString, opaque, list, tuple, pair, dat, Table, kind, typeAt, built, fieldsOf, fieldsAt, ctors, ctorsAt, arity}
-use Rattle.scope.specs.Patterns.{Literal, int, byteArray, literalKind, wild, lit, con, Row, Matrix}
+use Rattle.scope.specs.Types.{Ref, Ctor, Ty, integer, byteString, opaque, list, tuple, pair, dat, Table, kind, typeAt, fieldsOf}
+use Rattle.scope.specs.Constructors.{built, fieldsAt, ctors, ctorsAt, arity}
+use Rattle.scope.specs.Simplify.{Literal, int, byteArray, wild, lit, con, Row, Matrix}
+use Rattle.laws.specs.Typed.{literalKind}
 use Rattle.scope.specs.Walks.{specializeByCtor, specializeByLiteral, specializeByWildcard, seen, Column, column, Walk, joined, tryEach, usefulWild, usefulHead, isUsefulStep, isUsefulIn, cost, isUseful}
 use Rattle.meaning.specs.Values.{vcon, Vals, []ᵛ, _∷ᵛ_, _++ᵛ_, HasTypes, noValues, integers, byteStrings, opaques, made, literalFits, fits, fitsAny, isAdmitted}
 use Rattle.meaning.specs.Meaning.{AllValued, Witness, UsefulRight}

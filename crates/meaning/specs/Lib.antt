@@ -1,5 +1,5 @@
--- What the definitions of `scope` are to mean: values, the paper's usefulness, and the promises as statements.
+-- What the definitions of `scope` are to mean: values, the paper's usefulness, and what follows for the rows of a file.
 pub mod Values
 pub mod Meaning
-pub mod Promises
+pub mod Rows
 pub mod Renamed

@@ -1,32 +1,29 @@
 -- What the definitions are to mean, as statements. proofs/ has their proofs.
-use mathlib.Core.List.{List, [], _∷_}
+use mathlib.Core.List.{List}
 use mathlib.Core.Path.{_≡_}
 use mathlib.Core.Logic.{_↔_}
 use mathlib.Core.Bool.{true, false}
 use Prim.Native.Nat.{ℕ, _<_}
 use lib.ListN.{length, getD}
 use Rattle.scope.specs.Lists.{Text, all}
-use Rattle.scope.specs.Types.{Ref, Table, typeAt, refs, refsGood, allFinite}
-use Rattle.scope.specs.Patterns.{Row, Matrix, Typed, TypedRows}
+use Rattle.scope.specs.Types.{Ref, Table, typeAt}
+use Rattle.scope.specs.Finite.{refs, refsGood, allFinite}
+use Rattle.scope.specs.Simplify.{Row, Matrix}
+use Rattle.laws.specs.Typed.{Typed, TypedRows}
 use Rattle.scope.specs.Frames.{isDecimal}
 use Rattle.scope.specs.Walks.{isUseful}
 use Rattle.scope.specs.Text.{decimal}
 use Rattle.scope.specs.Blocks.{isSound}
-use Rattle.meaning.specs.Values.{Whole, plus, denotes, Val, Vals, []ᵛ, _∷ᵛ_, HasTypes, fits, fitsAny, admits}
+use Rattle.meaning.specs.Values.{Number, plus, denotes, Vals, HasTypes, Valued, fits, fitsAny, admits}
 
 -- Equal texts are equal numbers: an integer has one decimal text
-pub record OneText (n : Whole) : Type 0 where
+pub record OneText (n : Number) : Type 0 where
   pub text : Text
   pub admitted : isDecimal text ≡ true
   pub said : denotes text ≡ n
   pub only : (other : Text) → isDecimal other ≡ true → denotes other ≡ n → other ≡ text
 
--- type t has a value; every value is finite
-pub record Valued (table : Table) (t : Ref) : Type 0 where
-  pub value : Val
-  pub typed : HasTypes table (t ∷ []) (value ∷ᵛ []ᵛ)
-
--- every type of the table has one
+-- every type of the table has a value
 abbrev pub AllValued : Table → Type 0
 AllValued table = (t : Ref) → t < length table → Valued table t
 
@@ -49,7 +46,7 @@ pub record Witness (table : Table) (ts : List Ref) (m : Matrix) (q : Row) : Type
 
 -- each integer has one decimal text
 abbrev pub DecimalOnce : Type 0
-DecimalOnce = (n : Whole) → OneText n
+DecimalOnce = (n : Number) → OneText n
 
 -- the numbers of a report are the texts of what they count
 abbrev pub NumbersSay : Type 0
@@ -58,7 +55,8 @@ NumbersSay = (n : ℕ) → (isDecimal (decimal n) ≡ true) × (denotes (decimal
 -- `is_useful` says yes exactly when there is a witness
 abbrev pub UsefulRight : Type 0
 UsefulRight =
-    (table : Table) → AllValued table → (ts : List Ref) (m : Matrix) (q : Row) → TypedRows table ts m → Typed table ts q → all (all admits) m ≡ true → all admits q ≡ true
+    (table : Table) → AllValued table → (ts : List Ref) (m : Matrix) (q : Row) → TypedRows table ts m → Typed table ts q → all (all admits) m ≡ true
+    → all admits q ≡ true
     → (isUseful table (length ts) m q .result ≡ true) ↔ Witness table ts m q
 
 -- where all references are to types: the test for finite values passes exactly when every type has one

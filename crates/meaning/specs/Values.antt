@@ -2,33 +2,34 @@
 use mathlib.Core.List.{List, [], _∷_}
 use mathlib.Core.Path.{_≡_}
 use mathlib.Core.Bool.{Bool, true, false, cond, _&&_, _||_}
-use Prim.Native.Nat.{ℕ, _+_, _-_, _*_, _^_, _<_}
+use Prim.Native.Nat.{ℕ, suc, _+_, _-_, _*_, _^_, _<_}
 use lib.ListN.{length}
 use lib.Dec.{ltb, eqb}
 use Rattle.scope.specs.Lists.{Text, all, same}
-use Rattle.scope.specs.Types.{Ref, Table, integer, byteString, opaque, typeAt, ctors, fieldsAt}
-use Rattle.scope.specs.Patterns.{Literal, int, byteArray, Node, wild, lit, con, Row, Matrix}
+use Rattle.scope.specs.Types.{Ref, Table, integer, byteString, opaque, typeAt}
+use Rattle.scope.specs.Constructors.{ctors, fieldsAt}
+use Rattle.scope.specs.Simplify.{Literal, int, byteArray, Node, wild, lit, con, Row, Matrix}
 use Rattle.scope.specs.Frames.{isDecimal}
 
 -- An integer: `plus n` is n, `minus n` is -(n + 1)
-pub data Whole : Type 0 where
-  plus minus : ℕ → Whole
+pub data Number : Type 0 where
+  plus minus : ℕ → Number
 
 -- the number that digits say
-abbrev pub digits : Text → ℕ
-digits [] = 0
-digits (d ∷ ds) = (d - 48) * 10 ^ length ds + digits ds
+abbrev pub digitsSay : Text → ℕ
+digitsSay [] = 0
+digitsSay (d ∷ ds) = (d - 48) * 10 ^ length ds + digitsSay ds
 
 -- the integer that a decimal text denotes; 45 is the minus
-unfoldable pub denotes : Text → Whole
+unfoldable pub denotes : Text → Number
 denotes [] = plus 0
-denotes (d ∷ ds) = cond (eqb d 45) (minus (digits ds - 1)) (plus (digits (d ∷ ds)))
+denotes (d ∷ ds) = cond (eqb d 45) (minus (digitsSay ds - 1)) (plus (digitsSay (d ∷ ds)))
 
 infixr 67 _∷ᵛ_
 mutual
   -- A value: an integer, a byte string, one of the values of an opaque type, or constructor c with its fields
   pub data Val : Type 0 where
-    vint : Whole → Val
+    vint : Number → Val
     vbytes : Text → Val
     vopaque : ℕ → Val
     vcon : ℕ → Vals → Val
@@ -44,6 +45,11 @@ abbrev pub _++ᵛ_ : Vals → Vals → Vals
 []ᵛ ++ᵛ ws = ws
 (v ∷ᵛ vs) ++ᵛ ws = v ∷ᵛ (vs ++ᵛ ws)
 
+-- how many values
+abbrev pub lengthᵛ : Vals → ℕ
+lengthᵛ []ᵛ = 0
+lengthᵛ (v ∷ᵛ vs) = suc (lengthᵛ vs)
+
 -- a byte is below 256
 abbrev pub isByte : ℕ → Bool
 isByte b = ltb b 256
@@ -51,13 +57,20 @@ isByte b = ltb b 256
 -- a row of values is of these types
 pub data HasTypes (table : Table) : List Ref → Vals → Type 0 where
   noValues : HasTypes table [] []ᵛ
-  integers : {t : Ref} {ts : List Ref} {n : Whole} {vs : Vals} → typeAt table t ≡ integer → HasTypes table ts vs → HasTypes table (t ∷ ts) (vint n ∷ᵛ vs)
-  byteStrings : {t : Ref} {ts : List Ref} {s : Text} {vs : Vals} → typeAt table t ≡ byteString → all isByte s ≡ true → HasTypes table ts vs → HasTypes table (t ∷ ts) (vbytes s ∷ᵛ vs)
+  integers : {t : Ref} {ts : List Ref} {n : Number} {vs : Vals} → typeAt table t ≡ integer → HasTypes table ts vs → HasTypes table (t ∷ ts) (vint n ∷ᵛ vs)
+  byteStrings : {t : Ref} {ts : List Ref} {s : Text} {vs : Vals} → typeAt table t ≡ byteString → all isByte s ≡ true → HasTypes table ts vs
+      → HasTypes table (t ∷ ts) (vbytes s ∷ᵛ vs)
   opaques : {t : Ref} {ts : List Ref} {n : ℕ} {vs : Vals} → typeAt table t ≡ opaque → HasTypes table ts vs → HasTypes table (t ∷ ts) (vopaque n ∷ᵛ vs)
-  made : {t : Ref} {ts : List Ref} {c : ℕ} {args vs : Vals} → c < length (ctors table t) → HasTypes table (fieldsAt table t c) args → HasTypes table ts vs → HasTypes table (t ∷ ts) (vcon c args ∷ᵛ vs)
+  made : {t : Ref} {ts : List Ref} {c : ℕ} {args vs : Vals} → c < length (ctors table t) → HasTypes table (fieldsAt table t c) args → HasTypes table ts vs
+      → HasTypes table (t ∷ ts) (vcon c args ∷ᵛ vs)
+
+-- type t has a value; every value is finite
+pub record Valued (table : Table) (t : Ref) : Type 0 where
+  pub value : Val
+  pub typed : HasTypes table (t ∷ []) (value ∷ᵛ []ᵛ)
 
 -- are two integers the same
-abbrev pub sameWhole : Whole → Whole → Bool
+abbrev pub sameWhole : Number → Number → Bool
 sameWhole (plus m) (plus n) = eqb m n
 sameWhole (plus m) (minus n) = false
 sameWhole (minus m) (plus n) = false

@@ -1,1 +1,1 @@
-// What the answers of `scope` and `answers` mean, on values, and that they mean it. No code that runs.
+// What the definitions of `scope` mean, on values, and that they mean it. No code that runs.

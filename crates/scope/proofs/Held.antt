@@ -6,7 +6,7 @@ use Prim.Native.String.{String}
 use Rattle.scope.specs.Lists.{bytes}
 use Rattle.scope.specs.Lines.{lines}
 use Rattle.scope.specs.Blocks.{Parsed, parsed, faulty, blockOf}
-use Rattle.scope.specs.Report.{Findings, findings}
+use Rattle.scope.specs.Driver.{Findings, findings}
 use Rattle.scope.proofs.Compute.{compute}
 
 -- the most cells that open calls of the first and of the second kind hold for a file

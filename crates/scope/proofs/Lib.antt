@@ -1,8 +1,9 @@
--- A table of files computed from the definitions, and what a limit comes to.
+-- Files computed from the definitions, P1 to P10 among them, what a limit comes to, and the laws of an answer and a refusal.
 pub mod Tests
 pub mod Limits
 pub mod Compute
-pub mod Tables
-pub mod Shown
 pub mod Telling
 pub mod Held
+pub mod Worked
+pub mod Answers
+pub mod Refusals

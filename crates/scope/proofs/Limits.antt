@@ -1,14 +1,32 @@
 -- What a test of a limit says, one law each: what a code's branch cites.
+use mathlib.Core.List.{List, _∷_}
 use mathlib.Core.Path.{_≡_, refl}
-use mathlib.Core.Bool.{true, false, _&&_, _||_}
-use Prim.Native.Nat.{ℕ, _≤_}
-use lib.Dec.{ltb}
+use mathlib.Core.Bool.{Bool, true, false, _&&_, _||_}
+use Prim.Native.Nat.{ℕ, _≤_, _<_, _%_}
+use lib.Dec.{ltb, eqb}
 use lib.ListN.{length}
-use borrow.Author.Tests.{ltb-false, le-ltb}
+use borrow.Author.Tests.{ltb-false, le-ltb, lt-leb}
+use Rattle.scope.specs.Lists.{all}
+use Rattle.scope.specs.Lines.{ended, isHex, isLine}
 use Rattle.scope.specs.Types.{lastDeclared}
-use Rattle.scope.specs.Blocks.{Block, ctorCount, nodesIn, hasRoom}
-use Rattle.scope.specs.Report.{Findings, tooMuch}
+use Rattle.scope.specs.Frames.{isKind}
+use Rattle.scope.specs.Blocks.{Block, State, refuse, ctorCount, nodesIn, stands, hasRoom, framed}
+use Rattle.scope.specs.Driver.{Findings, tooMuch}
 use Rattle.scope.proofs.Tests.{neither}
+
+-- 3: over 1,280 digits
+pub over-digits : (ds : List ℕ) → 1280 < length ds → isLine (ended ds) ≡ false
+unfolding isLine
+over-digits ds h = rw (lt-leb (length ds) 1280 h) (fails (ltb 0 (length ds) && eqb (length ds % 2) 0) (all isHex ds))
+  where
+    fails : (a b : Bool) → (a && false && b) ≡ false
+    fails true b = refl
+    fails false b = refl
+
+-- 5 before 6: a frame out of place is 5, whether or not there is room for it
+pub out-of-place : (s : State) (k : ℕ) (bs : List ℕ) → isKind k ≡ true → stands s k ≡ false → framed s (k ∷ bs) ≡ refuse 5
+unfolding framed
+out-of-place s k bs h p = rw (h, p)
 
 -- 6: whether there is room for one more frame
 pub room-types : (b : Block) → hasRoom b 1 ≡ ltb (length (b .table)) 64

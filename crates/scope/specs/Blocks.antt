@@ -8,9 +8,11 @@ use lib.Dec.{leb, ltb, eqb}
 use Rattle.scope.specs.Limits.{maxTypes, maxConstructors, maxInType, maxClauses, maxNodes}
 use Rattle.scope.specs.Lists.{any, sum, same, twice}
 use Rattle.scope.specs.Lines.{Line, isLine, bytesOf}
-use Rattle.scope.specs.Types.{Ref, Ctor, Ty, Table, kind, declared, nameOf, lastDeclared, addCtor, isRef, refsGood, allFinite}
-use Rattle.scope.specs.Patterns.{Row, Matrix, simplify}
-use Rattle.scope.specs.Frames.{Read, fault, found, Frame, typeOf, constructorOf, subjectOf, clauseOf, end, isKind, frame}
+use Rattle.scope.specs.Types.{Ref, Ctor, Ty, Table, dataKind, kind, nameOf, declared, lastDeclared, addCtor}
+use Rattle.scope.specs.Frames.{typeFrames, constructorFrames, subjectFrames, clauseFrames, endFrames, isKind}
+use Rattle.scope.specs.Frames.{Read, fault, found, Frame, typeOf, constructorOf, subjectOf, clauseOf, end, frame}
+use Rattle.scope.specs.Finite.{isRef, refsGood, allFinite}
+use Rattle.scope.specs.Simplify.{Row, Matrix, simplify}
 
 -- what a file says: the types, the subject's type, and a row of one simplified pattern for each clause
 pub record Block : Type 0 where
@@ -24,9 +26,9 @@ pub data Phase : Type 0 where
 
 -- Order: types, each data type followed by its constructors; one subject; 0 or more clauses; end. The kinds that may stand in each phase
 abbrev pub standing : Phase → List ℕ
-standing types = 1 ∷ 3 ∷ []
-standing constructors = 1 ∷ 2 ∷ 3 ∷ []
-standing clauses = 4 ∷ 5 ∷ []
+standing types = typeFrames ∷ subjectFrames ∷ []
+standing constructors = typeFrames ∷ constructorFrames ∷ subjectFrames ∷ []
+standing clauses = clauseFrames ∷ endFrames ∷ []
 standing closed = []
 
 -- what the lines so far have said
@@ -77,18 +79,19 @@ nodesIn m = sum (map length m)
 unfoldable pub stands : State → ℕ → Bool
 stands s k = any (eqb k) (standing (s .phase))
 
+-- 6: is there room for one more frame of each kind: 64 types, 256 constructors, 32 in one type, 64 clauses; no other kind has a limit
+abbrev pub roomFor : Block → List Bool
+roomFor b =
+    true ∷  -- 00 no frame
+    ltb (length (b .table)) maxTypes ∷  -- 01 type
+    (ltb (ctorCount (b .table)) maxConstructors && ltb (length (lastDeclared (b .table))) maxInType) ∷  -- 02 constructor
+    true ∷  -- 03 subject
+    ltb (length (b .rows)) maxClauses ∷  -- 04 clause
+    []
+
 -- 6: is there room for one more frame of kind k
 unfoldable pub hasRoom : Block → ℕ → Bool
-hasRoom b k = getD (true ∷ moreTypes ∷ moreCtors ∷ true ∷ moreClauses ∷ []) k true
-  where
-    moreTypes : Bool
-    moreTypes = ltb (length (b .table)) maxTypes
-
-    moreCtors : Bool
-    moreCtors = ltb (ctorCount (b .table)) maxConstructors && ltb (length (lastDeclared (b .table))) maxInType
-
-    moreClauses : Bool
-    moreClauses = ltb (length (b .rows)) maxClauses
+hasRoom b k = getD (roomFor b) k true
 
 -- 7: is the name new in the type, and is no label there twice
 unfoldable pub isFresh : Table → Ctor → Bool
@@ -100,9 +103,9 @@ isSound table t = isRef table t && refsGood table && allFinite table
 
 -- the phase after a type frame
 abbrev pub afterType : Ty → Phase
-afterType ty = cond (eqb (kind ty) 6) constructors types
+afterType ty = cond (eqb (kind ty) dataKind) constructors types
 
--- the state with this table
+-- the state before the subject, with this table
 abbrev pub withTable : Phase → Table → State
 withTable p table = record { phase = p; block = record { table = table; subject = 0; rows = [] } }
 
@@ -136,8 +139,8 @@ framed s (k ∷ bs) = do
   enter (s .block) f
 
 -- a line: 3 first
-unfoldable pub line : State → Line → Step State
-line s l = do
+unfoldable pub lineStep : State → Line → Step State
+lineStep s l = do
   _ ← need 3 (isLine l)
   framed s (bytesOf l)
 
@@ -164,7 +167,7 @@ goOn k (refuse n) go = faulty n k
 -- the lines from number k on; the first faulty one decides
 unfoldable pub parse : ℕ → State → List Line → Parsed
 parse k s [] = finish k s
-parse k s (l ∷ ls) = goOn k (line s l) (λ s′. parse (suc k) s′ ls)
+parse k s (l ∷ ls) = goOn k (lineStep s l) (λ s′. parse (suc k) s′ ls)
 
 -- all lines
 unfoldable pub blockOf : List Line → Parsed

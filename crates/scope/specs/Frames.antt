@@ -5,8 +5,9 @@ use Prim.Native.Nat.{ℕ, zero, suc, _+_, _-_}
 use lib.ListN.{length, getD}
 use lib.Dec.{eqb}
 use Rattle.scope.specs.Lists.{Text, bit, all, among}
+use Rattle.scope.specs.Limits.{maxName, maxText, maxArity, minTuple, maxTuple}
 use Rattle.scope.specs.Types.{Ref, Ctor, Ty, integer, byteString, opaque, list, tuple, pair, dat}
-use Rattle.scope.specs.Patterns.{Raw, discard, variable, assign, pairOf, number, string, listOf, constructor, tupleOf, inner}
+use Rattle.scope.specs.Patterns.{Raw, discard, variable, assign, integerOf, byteStringOf, listOf, constructor, pairOf, tupleOf, inner}
 
 -- What reading gives: a value and the bytes after it; or a fault, refusal 4, with the bytes from the one at fault on
 pub data Read (A : Type 0) : Type 0 where
@@ -60,8 +61,8 @@ choosing rs [] = fault []
 choosing rs (b ∷ bs) = getD rs b (λ rest. fault (b ∷ bs)) bs
 
 -- what was read, if it passes the test; else a fault at its first byte
-abbrev pub judging : {A : Type 0} → (A → Bool) → Reader A → Reader A
-judging good r = λ bs. andThen (r bs) λ a rest. cond (good a) (found a rest) (fault bs)
+abbrev pub onlyIf : {A : Type 0} → (A → Bool) → Reader A → Reader A
+onlyIf good r = λ bs. andThen (r bs) λ a rest. cond (good a) (found a rest) (fault bs)
 
 -- A to Z
 abbrev pub isUpper : ℕ → Bool
@@ -83,17 +84,17 @@ isSmall b = isLower b || isDigit b || eqb b 95
 unfoldable pub isBig : ℕ → Bool
 isBig b = isUpper b || isSmall b
 
--- A name has 1 to 32 bytes, the first of one sort and the others of another
-abbrev pub name : (ℕ → Bool) → (ℕ → Bool) → Reader Text
-name first other = do n ← within 1 32; b ← passing first; bs ← times (n - 1) (passing other); give (b ∷ bs)
+-- A name is a length byte, then that many bytes, 1 to 32, the first of one sort and the others of another
+abbrev pub nameBy : (ℕ → Bool) → (ℕ → Bool) → Reader Text
+nameBy first other = do n ← within 1 maxName; b ← passing first; bs ← times (n - 1) (passing other); give (b ∷ bs)
 
 -- a constructor's begins with A to Z
 unfoldable pub bigName : Reader Text
-bigName = name isUpper isBig
+bigName = nameBy isUpper isBig
 
 -- a label's or a variable's begins with a to z
 unfoldable pub smallName : Reader Text
-smallName = name isLower isSmall
+smallName = nameBy isLower isSmall
 
 -- digits of which the first is not 0
 abbrev pub isPositive : Text → Bool
@@ -105,22 +106,30 @@ unfoldable pub isDecimal : Text → Bool
 isDecimal [] = false
 isDecimal (d ∷ ds) = cond (eqb d 45) (isPositive ds) ((eqb d 48 && eqb (length ds) 0) || isPositive (d ∷ ds))
 
--- n bytes, n from lo to 64
-abbrev pub text : ℕ → (Text → Bool) → Reader Text
-text lo good = do n ← within lo 64; judging good (times n byte)
+-- a length byte, lo to 64, then that many bytes
+abbrev pub textFrom : ℕ → (Text → Bool) → Reader Text
+textFrom lo good = do n ← within lo maxText; onlyIf good (times n byte)
 
 -- 01 type: what comes after the byte that says which
 abbrev pub typeKinds : List (Reader Ty)
-typeKinds = give integer ∷ give byteString ∷ give opaque ∷ aList ∷ aTuple ∷ aPair ∷ give (dat []) ∷ []
+typeKinds =
+    give integer ∷  -- 00 integer
+    give byteString ∷  -- 01 byte string
+    give opaque ∷  -- 02 opaque
+    listBytes ∷  -- 03 list, element type
+    tupleBytes ∷  -- 04 tuple, count 2 to 16, types
+    pairBytes ∷  -- 05 pair, two types
+    give (dat []) ∷  -- 06 data
+    []
   where
-    aList : Reader Ty
-    aList = do e ← byte; give (list e)
+    listBytes : Reader Ty
+    listBytes = do e ← byte; give (list e)
 
-    aTuple : Reader Ty
-    aTuple = do n ← within 2 16; ts ← times n byte; give (tuple ts)
+    tupleBytes : Reader Ty
+    tupleBytes = do n ← within minTuple maxTuple; ts ← times n byte; give (tuple ts)
 
-    aPair : Reader Ty
-    aPair = do a ← byte; b ← byte; give (pair a b)
+    pairBytes : Reader Ty
+    pairBytes = do a ← byte; b ← byte; give (pair a b)
 
 -- 01 type
 unfoldable pub typeFrame : Reader Ty
@@ -137,28 +146,38 @@ unfoldable pub constructorFrame : Reader Ctor
 constructorFrame = do
   n ← bigName
   labelled ← flag
-  k ← within (bit labelled) 16
+  k ← within (bit labelled) maxArity
   r ← fieldsFor labelled k
   give (record { name = n; labels = r .1; fields = r .0 })
 
 -- what comes after the byte that says which pattern
 abbrev pub patternKinds : List (Reader Raw)
-patternKinds = give discard ∷ aName variable ∷ aName assign ∷ aNumber ∷ aString ∷ aList ∷ aCtor ∷ give pairOf ∷ aTuple ∷ []
+patternKinds =
+    give discard ∷  -- 00 discard
+    named variable ∷  -- 01 variable, name
+    named assign ∷  -- 02 assign, name, pattern
+    anInteger ∷  -- 03 integer, length 1 to 64, decimal text
+    aByteString ∷  -- 04 byte string, length 0 to 64, bytes
+    aList ∷  -- 05 list, element count, tail 00 or 01, elements, then the tail
+    aConstructor ∷  -- 06 constructor, its number within the type from 0, argument count, spread 00 or 01, arguments
+    give pairOf ∷  -- 07 pair, two patterns
+    aTuple ∷  -- 08 tuple, count, patterns
+    []
   where
-    aName : Raw → Reader Raw
-    aName p = do n ← smallName; give p
+    named : (Text → Raw) → Reader Raw
+    named p = do n ← smallName; give (p n)
 
-    aNumber : Reader Raw
-    aNumber = do t ← text 1 isDecimal; give (number t)
+    anInteger : Reader Raw
+    anInteger = do t ← textFrom 1 isDecimal; give (integerOf t)
 
-    aString : Reader Raw
-    aString = do t ← text 0 (λ t. true); give (string t)
+    aByteString : Reader Raw
+    aByteString = do t ← textFrom 0 (λ t. true); give (byteStringOf t)
 
     aList : Reader Raw
     aList = do k ← byte; tail ← flag; give (listOf k tail)
 
-    aCtor : Reader Raw
-    aCtor = do c ← byte; k ← byte; spread ← flag; give (constructor c k spread)
+    aConstructor : Reader Raw
+    aConstructor = do c ← byte; k ← byte; spread ← flag; give (constructor c k spread)
 
     aTuple : Reader Raw
     aTuple = do k ← byte; give (tupleOf k)
@@ -185,25 +204,57 @@ pub data Frame : Type 0 where
   clauseOf : List Raw → Frame
   end : Frame
 
--- The kinds of frame: 1 type, 2 constructor, 3 subject, 4 clause, 5 end
+-- The first byte is the kind: 01 type
+abbrev pub typeFrames : ℕ
+typeFrames = 1
+
+-- 02 constructor of the data type just above
+abbrev pub constructorFrames : ℕ
+constructorFrames = 2
+
+-- 03 subject
+abbrev pub subjectFrames : ℕ
+subjectFrames = 3
+
+-- 04 clause
+abbrev pub clauseFrames : ℕ
+clauseFrames = 4
+
+-- 05 end
+abbrev pub endFrames : ℕ
+endFrames = 5
+
+-- is this a known kind
 abbrev pub isKind : ℕ → Bool
-isKind k = among 1 5 k
+isKind k = among typeFrames endFrames k
+
+-- no frame has this kind
+abbrev pub noFrame : Reader Frame
+noFrame bs = fault bs
 
 -- what comes after the kind
-unfoldable pub frame : ℕ → Reader Frame
-frame k = getD (none ∷ aType ∷ aConstructor ∷ aSubject ∷ aClause ∷ give end ∷ []) k none
+abbrev pub frameKinds : List (Reader Frame)
+frameKinds =
+    noFrame ∷  -- 00 no frame
+    aType ∷  -- 01 type
+    aCtor ∷  -- 02 constructor
+    aSubject ∷  -- 03 subject, its type
+    aClause ∷  -- 04 clause, one pattern
+    give end ∷  -- 05 end, nothing
+    []
   where
-    none : Reader Frame
-    none bs = fault bs
-
     aType : Reader Frame
     aType = do ty ← typeFrame; give (typeOf ty)
 
-    aConstructor : Reader Frame
-    aConstructor = do c ← constructorFrame; give (constructorOf c)
+    aCtor : Reader Frame
+    aCtor = do c ← constructorFrame; give (constructorOf c)
 
     aSubject : Reader Frame
     aSubject = do t ← byte; give (subjectOf t)
 
     aClause : Reader Frame
     aClause = do ps ← patterns 1; give (clauseOf ps)
+
+-- a frame of kind k: what comes after the kind
+unfoldable pub frame : ℕ → Reader Frame
+frame k = getD frameKinds k noFrame

@@ -1,4 +1,4 @@
--- The limits of document 01, by the number of the refusal that each decides.
+-- The numbers of document 01, by the number of the refusal that each decides.
 use Prim.Native.Nat.{ℕ}
 
 -- 1: the cells of scratch, of 16 bits, that must be lent
@@ -12,6 +12,26 @@ maxFile = 49152
 -- 3: the digits of a line
 abbrev pub maxDigits : ℕ
 maxDigits = 1280
+
+-- 4: the bytes of a name; a name has at least 1
+abbrev pub maxName : ℕ
+maxName = 32
+
+-- 4: the bytes of a decimal text or of a byte string
+abbrev pub maxText : ℕ
+maxText = 64
+
+-- 4: the fields of a constructor
+abbrev pub maxArity : ℕ
+maxArity = 16
+
+-- 4: the parts of a tuple type, at least
+abbrev pub minTuple : ℕ
+minTuple = 2
+
+-- 4: the parts of a tuple type, at most
+abbrev pub maxTuple : ℕ
+maxTuple = 16
 
 -- 6: the types of a file
 abbrev pub maxTypes : ℕ

@@ -5,8 +5,9 @@ use Prim.Native.Nat.{ℕ, zero, suc, _+_, _/_, _%_}
 use lib.ListN.{length}
 use lib.Dec.{ltb, eqb}
 use Rattle.scope.specs.Lists.{Text, bytes, same}
-use Rattle.scope.specs.Types.{Ref, Table, typeAt, kind, ctorAt, arity, consName, nilName, tupleName}
-use Rattle.scope.specs.Patterns.{wild, lit, con, Row}
+use Rattle.scope.specs.Types.{Ref, Table, typeAt, listKind, tupleKind, pairKind, kind}
+use Rattle.scope.specs.Constructors.{consName, nilName, consNumber, nilNumber, tupleName, ctorAt, arity}
+use Rattle.scope.specs.Simplify.{wild, lit, con, Row}
 
 -- the decimal digits of n, as far as the fuel goes
 abbrev pub decimalIn : ℕ → ℕ → Text
@@ -56,7 +57,7 @@ lookByName name = cond (contains tupleName name) round (cond (same name consName
 
 -- The paste text goes by the type's kind, and writes pairs as tuples
 abbrev pub lookByKind : ℕ → ℕ → Look
-lookByKind k c = cond (eqb k 4 || eqb k 5) round (cond (eqb k 3 && eqb c 0) square spelled)
+lookByKind k c = cond (eqb k tupleKind || eqb k pairKind) round (cond (eqb k listKind && eqb c consNumber) square spelled)
 
 -- how constructor c of type t looks
 unfoldable pub look : Mode → Table → Ref → ℕ → Look
@@ -68,7 +69,7 @@ abbrev pub isNil : Table → Row → Bool
 isNil table [] = false
 isNil table (wild ∷ r) = false
 isNil table (lit l ∷ r) = false
-isNil table (con t c ∷ r) = eqb (kind (typeAt table t)) 3 && eqb c 1
+isNil table (con t c ∷ r) = eqb (kind (typeAt table t)) listKind && eqb c nilNumber
 
 -- a text, if the test does not leave it out
 abbrev pub textUnless : Bool → Text → List Text

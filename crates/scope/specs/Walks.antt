@@ -6,10 +6,11 @@ use Prim.Native.Nat.{ℕ, zero, suc, _+_, _*_, max}
 use lib.ListN.{length, replicate}
 use lib.Dec.{eqb}
 use Rattle.scope.specs.Lists.{sum, flatten}
-use Rattle.scope.specs.Types.{Ref, Table, fieldsOf, ctorsAt, alts, arity}
-use Rattle.scope.specs.Patterns.{Literal, sameLiteral, Node, wild, lit, con, Row, Matrix}
+use Rattle.scope.specs.Types.{Ref, Table, fieldsOf}
+use Rattle.scope.specs.Constructors.{ctorsAt, arity, alts}
+use Rattle.scope.specs.Simplify.{Literal, Node, wild, lit, con, Row, Matrix, sameLiteral}
 
--- Rows. A specialised row is one row or none: this row, or none
+-- A specialised row is one row, if the test passes, or none
 abbrev pub rowIf : Bool → Row → Matrix
 rowIf true r = r ∷ []
 rowIf false r = []
@@ -82,7 +83,7 @@ pub data Column : Type 0 where
   bare : Column
   part full : Ref → Column
 
--- the same, where the column's type is known
+-- the same, by the column's type if it has one
 abbrev pub columnAt : Table → Matrix → Option Ref → Column
 columnAt table m none = bare
 columnAt table m (some t) = cond (allSeen m 0 (alts table t)) (full t) (part t)
@@ -162,7 +163,7 @@ gather f t c (fields ∷ ks) = joined _++_ (turned (recoverCtor t c) (f c (lengt
 
 -- One call of `collect_missing_patterns`, of rows m of n patterns; `again` is the call that it makes
 module _ (table : Table) (again : ℕ → Matrix → Walk Matrix) where
-  -- Where some constructors of a column are seen and some are not, only the unseen are named
+  -- No constructor seen: a wildcard. Where some constructors of a column are seen and some are not, only the unseen are named. All seen: each of them
   abbrev pub missingColumn : Column → ℕ → Matrix → Walk Matrix
   missingColumn bare n m = turned (map (wild ∷_)) (again n (specializeByWildcard m))
   missingColumn (part t) n m = turned (eachRow (unseen m t 0 (alts table t))) (again n (specializeByWildcard m))

@@ -9,8 +9,9 @@ use lib.ListN.{length, length-map}
 use lib.Dec.{eqb}
 use borrow.Author.Tests.{eqb-true, eqb-false, eq-eqb, ne-eqb}
 use Rattle.scope.specs.Lists.{Text, bit, same}
-use Rattle.scope.specs.Types.{Ref, Table, fieldsOf, ctors, ctorAt, alts}
-use Rattle.scope.specs.Patterns.{Matrix}
+use Rattle.scope.specs.Types.{Ref, Table, fieldsOf}
+use Rattle.scope.specs.Constructors.{ctors, ctorAt, alts}
+use Rattle.scope.specs.Simplify.{Matrix}
 use Rattle.scope.specs.Walks.{seen, allSeen, columnType, Column, bare, part, full, columnAt, column}
 use Rattle.source.specs.Source as rust
 use Rattle.source.specs.Source.{ValueConstructor, Panic, Entry, containsKey, before, place, replace, insert, collectInto, collectCtors, constructorsFor}

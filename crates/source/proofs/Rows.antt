@@ -9,8 +9,10 @@ use lib.ListN.{length, getD, replicate, length-append, length-map, List·getD-ma
 use lib.Dec.{eqb, eqb·zero-suc, eqb·suc-zero, eqb·suc-suc}
 use borrow.Author.Tests.{eqb-true, eq-eqb}
 use Rattle.scope.specs.Lists.{Text, any, same, twice}
-use Rattle.scope.specs.Types.{Ref, Ty, integer, byteString, opaque, list, tuple, pair, dat, Table, typeAt, kind, nameOf, built, ctorsAt, ctors, ctorAt, fieldsAt, arity}
-use Rattle.scope.specs.Patterns.{Literal, int, byteArray, literalKind, sameLiteral, wild, Row, Matrix}
+use Rattle.scope.specs.Types.{Ref, Ty, integer, byteString, opaque, list, tuple, pair, dat, Table, typeAt, kind, nameOf}
+use Rattle.scope.specs.Constructors.{built, ctorsAt, ctors, ctorAt, fieldsAt, arity}
+use Rattle.scope.specs.Simplify.{Literal, int, byteArray, sameLiteral, wild, Row, Matrix}
+use Rattle.laws.specs.Typed.{literalKind}
 use Rattle.scope.specs.Walks as flat
 use Rattle.source.specs.Source as rust
 use Rattle.source.specs.Source.{Patterns, []ᵖ, _∷ᵖ_, _++ᵖ_, len, wildcards, Panic}

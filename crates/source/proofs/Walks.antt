@@ -8,8 +8,9 @@ use native.Mathlib.Omega.{arith}
 use lib.ListN.{length, getD, replicate, length-append}
 use lib.Dec.{eqb}
 use borrow.Author.Tests.{eq-eqb, ne-eqb, lt-ltb, le-ltb}
-use Rattle.scope.specs.Types.{Ref, Ctor, Table, fieldsOf, built, ctors, ctorAt, fieldsAt, arity, alts}
-use Rattle.scope.specs.Patterns.{wild, con, Row, Matrix}
+use Rattle.scope.specs.Types.{Ref, Ctor, Table, fieldsOf}
+use Rattle.scope.specs.Constructors.{built, ctors, ctorAt, fieldsAt, arity, alts}
+use Rattle.scope.specs.Simplify.{wild, con, Row, Matrix}
 use Rattle.scope.specs.Walks.{Walk, plain, holding, turned, joined, seen, Column, tryEach, unseen, gather}
 use Rattle.scope.specs.Walks as flat
 use Rattle.source.specs.Source as rust

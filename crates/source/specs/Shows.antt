@@ -4,8 +4,10 @@ use mathlib.Core.Path.{_≡_}
 use Prim.Native.Nat.{ℕ, _<_}
 use lib.ListN.{length}
 use Rattle.scope.specs.Lists.{Text}
-use Rattle.scope.specs.Types.{Ref, Table, typeAt, kind, ctors, ctorAt, fieldsAt, arity}
-use Rattle.scope.specs.Patterns.{Literal, literalKind, wild, lit, con, Row, Matrix}
+use Rattle.scope.specs.Types.{Ref, Table, typeAt, kind}
+use Rattle.scope.specs.Constructors.{ctors, ctorAt, fieldsAt, arity}
+use Rattle.scope.specs.Simplify.{Literal, wild, lit, con, Row, Matrix}
+use Rattle.laws.specs.Typed.{literalKind}
 use Rattle.scope.specs.Walks.{Walk}
 use Rattle.source.specs.Source.{ValueConstructor, wildcard, literal, constructor, Patterns, []ᵖ, _∷ᵖ_, _++ᵖ_, len, constructorsFor}
 use Rattle.source.specs.Source as rust
@@ -21,8 +23,11 @@ pub record Made (table : Table) (t : Ref) (c : ℕ) (name : Text) (alts : List V
 pub data Shows (table : Table) : List Ref → Row → Patterns → Type 0 where
   done : Shows table [] [] []ᵖ
   wilds : {t : Ref} {ts : List Ref} {r : Row} {ps : Patterns} → Shows table ts r ps → Shows table (t ∷ ts) (wild ∷ r) (wildcard ∷ᵖ ps)
-  lits : {t : Ref} {ts : List Ref} {l : Literal} {r : Row} {ps : Patterns} → kind (typeAt table t) ≡ literalKind l → Shows table ts r ps → Shows table (t ∷ ts) (lit l ∷ r) (literal l ∷ᵖ ps)
-  cons : {t : Ref} {ts : List Ref} {c : ℕ} {name : Text} {alts : List ValueConstructor} {args : Patterns} {r : Row} {ps : Patterns} → Made table t c name alts args → Shows table (fieldsAt table t c ++ ts) r (args ++ᵖ ps) → Shows table (t ∷ ts) (con t c ∷ r) (constructor name alts args ∷ᵖ ps)
+  lits : {t : Ref} {ts : List Ref} {l : Literal} {r : Row} {ps : Patterns} → kind (typeAt table t) ≡ literalKind l → Shows table ts r ps
+      → Shows table (t ∷ ts) (lit l ∷ r) (literal l ∷ᵖ ps)
+  cons : {t : Ref} {ts : List Ref} {c : ℕ} {name : Text} {alts : List ValueConstructor} {args : Patterns} {r : Row} {ps : Patterns}
+      → Made table t c name alts args → Shows table (fieldsAt table t c ++ ts) r (args ++ᵖ ps)
+      → Shows table (t ∷ ts) (con t c ∷ r) (constructor name alts args ∷ᵖ ps)
 
 -- rows show rows, in order
 pub data ShowsRows (table : Table) (ts : List Ref) : Matrix → rust.Matrix → Type 0 where

@@ -1,4 +1,4 @@
--- The source's own walks on its own trees, under its names, to be laid beside docs/src line by line; its texts and `simplify` are in `agreement`.
+-- The source's own walks on its own trees, under its names, to be laid beside `exhaustive.rs` line by line; its texts and `simplify` are in `agreement`.
 use mathlib.Core.List.{List, [], _∷_, _++_, map, filterMap, flatMap}
 use mathlib.Core.Bool.{Bool, true, false, cond, _&&_, _||_}
 use mathlib.Core.Option.{Option, none, some}
@@ -6,8 +6,9 @@ use Prim.Native.Nat.{ℕ, zero, suc, _+_, _-_, _*_}
 use lib.ListN.{length}
 use lib.Dec.{eqb, ltb}
 use Rattle.scope.specs.Lists.{Text, any, same}
-use Rattle.scope.specs.Types.{Ref, Ctor, Table, ctors}
-use Rattle.scope.specs.Patterns.{Literal, sameLiteral}
+use Rattle.scope.specs.Types.{Ref, Ctor, Table}
+use Rattle.scope.specs.Constructors.{ctors}
+use Rattle.scope.specs.Simplify.{Literal, sameLiteral}
 use Rattle.scope.specs.Walks.{Walk, plain, holding, turned, joined}
 
 -- `ValueConstructor`: of its record the module reads the name, the arity and the field map, which is labels in field order
@@ -228,7 +229,8 @@ module _ (panic : Panic) where
     missingBy (e ∷ es) n m =
         let alts = e .value in
         let missed = turned (flatMap (λ row. map (_∷ᵖ row) (filterMap (isMissing alts (e ∷ es)) alts))) (again n (specializeRowsByWildcard m)) in
-        let recovered = concatAlts (λ alt. turned (map (recoverCtor alts (alt .name) (alt .arity))) (again (alt .arity + n) (specializeRowsByCtor (alt .name) (alt .arity) m))) alts in
+        let recovered = concatAlts (λ alt.
+        turned (map (recoverCtor alts (alt .name) (alt .arity))) (again (alt .arity + n) (specializeRowsByCtor (alt .name) (alt .arity) m))) alts in
         cond (ltb (suc (length es)) (length alts)) missed recovered
 
     -- the test for no rows, then for n = 0

@@ -1,31 +1,25 @@
--- What a report promises of the file it is about: demands 2 and 3.
+-- Demand 3 over simplified rows, from which that over the file's own clauses follows; and that a report's text says the findings.
 use mathlib.Core.List.{List, [], _∷_}
 use mathlib.Core.Path.{_≡_}
 use mathlib.Core.Logic.{_↔_}
-use mathlib.Core.Bool.{Bool, true, false}
+use mathlib.Core.Bool.{true, false}
 use Prim.Native.Nat.{ℕ, _+_, _<_}
 use lib.ListN.{length, getD, take}
-use Rattle.answers.specs.declared.Answer.the-variants.{Report}
+use Rattle.scope.specs.declared.Answer.the-variants.{Report}
 use Rattle.scope.specs.Lists.{all}
 use Rattle.scope.specs.Lines.{lines}
-use Rattle.scope.specs.Patterns.{Row, Matrix, TypedRows}
+use Rattle.scope.specs.Simplify.{Row, Matrix}
+use Rattle.laws.specs.Typed.{TypedRows}
 use Rattle.scope.specs.Blocks.{Block, parsed, blockOf}
-use Rattle.scope.specs.Report.{findings, yeses, noes, report}
-use Rattle.answers.specs.Answer.{answer, reportText}
+use Rattle.scope.specs.Driver.{findings, verdicts, gaps}
+use Rattle.scope.specs.Report.{yeses, noes, report}
+use Rattle.scope.specs.Answer.{answer, reportText}
 use Rattle.meaning.specs.Values.{Vals, HasTypes, fits, fitsAny, admits, isPlain}
 use Rattle.meaning.specs.Meaning.{Sound, Witness}
 
--- the verdicts on a block's clauses
-abbrev pub verdicts : Block → List Bool
-verdicts b = findings b .reached .result
-
--- the missing rows of a block
-abbrev pub gaps : Block → Matrix
-gaps b = findings b .missing .result
-
 -- a value of the subject's type, as a row of one
-abbrev pub OfSubject : Block → Vals → Type 0
-OfSubject b vs = HasTypes (b .table) (b .subject ∷ []) vs
+abbrev pub SubjectRow : Block → Vals → Type 0
+SubjectRow b vs = HasTypes (b .table) (b .subject ∷ []) vs
 
 -- some value of the subject's type fits the row r and no row of m
 abbrev pub Reaches : Block → Matrix → Row → Type 0
@@ -44,16 +38,18 @@ pub record Promises (file : List ℕ) : Type 0 where
   -- clause i is reached exactly when some value fits it and no earlier clause; else never
   pub reached : (i : ℕ) → i < length (block .rows) → (getD (verdicts block) i false ≡ true) ↔ Reaches block (take i (block .rows)) (getD (block .rows) i [])
   -- no row is missing exactly when every value fits some clause
-  pub complete : (gaps block ≡ []) ↔ ((vs : Vals) → OfSubject block vs → fitsAny (block .rows) vs ≡ true)
+  pub complete : (gaps block ≡ []) ↔ ((vs : Vals) → SubjectRow block vs → fitsAny (block .rows) vs ≡ true)
   -- missing rows are patterns of the subject's type too, without literals
   pub patterned : TypedRows (block .table) (block .subject ∷ []) (gaps block)
   pub plain : all (all isPlain) (gaps block) ≡ true
   -- each missing row fits a value that no clause fits
   pub missed : (i : ℕ) → i < length (gaps block) → Reaches block (block .rows) (getD (gaps block) i [])
   -- no value fits two missing rows
-  pub once : (vs : Vals) → OfSubject block vs → (i j : ℕ) → i < length (gaps block) → j < length (gaps block) → fits (getD (gaps block) i []) vs ≡ true → fits (getD (gaps block) j []) vs ≡ true → i ≡ j
+  pub once : (vs : Vals) → SubjectRow block vs → (i j : ℕ) → i < length (gaps block) → j < length (gaps block) → fits (getD (gaps block) i []) vs ≡ true
+      → fits (getD (gaps block) j []) vs ≡ true → i ≡ j
   -- without literals no value of a missing row fits any clause
-  pub apart : all (all isPlain) (block .rows) ≡ true → (vs : Vals) → OfSubject block vs → (i : ℕ) → i < length (gaps block) → fits (getD (gaps block) i []) vs ≡ true → fitsAny (block .rows) vs ≡ false
+  pub apart : all (all isPlain) (block .rows) ≡ true → (vs : Vals) → SubjectRow block vs → (i : ℕ) → i < length (gaps block)
+      → fits (getD (gaps block) i []) vs ≡ true → fitsAny (block .rows) vs ≡ false
 
 -- every file that gets a report has them
 abbrev pub Promised : Type 0

@@ -4,25 +4,26 @@ use mathlib.Core.Bool.{cond}
 use Prim.Native.Nat.{ℕ}
 use lib.ListN.{length, drop, replicate}
 use lib.Dec.{leb, ltb}
-use Rattle.answers.specs.declared.Answer.{Answer}
-use Rattle.answers.specs.declared.Answer.the-variants.{Report, Refused}
+use Rattle.scope.specs.declared.Answer.{Answer}
+use Rattle.scope.specs.declared.Answer.the-variants.{Report, Refused}
 use Rattle.scope.specs.Limits.{scratchCells, maxFile, reportBytes}
 use Rattle.scope.specs.Lists.{Text, bytes}
 use Rattle.scope.specs.Lines.{lines}
 use Rattle.scope.specs.Text.{decimal}
 use Rattle.scope.specs.Blocks.{Block, Parsed, parsed, faulty, blockOf}
-use Rattle.scope.specs.Report.{Findings, findings, tooMuch, report}
+use Rattle.scope.specs.Driver.{Findings, findings, tooMuch}
+use Rattle.scope.specs.Report.{report}
 
 -- An answer is a number and a line from 1 (0 where no line is at fault). Number 0 is a report and its length
 pub record Said : Type 0 where
   pub number : ℕ
   pub line : ℕ
-  pub length : ℕ
+  pub long : ℕ
 
 -- document 01's number, line and length for each case of the answer
 unfoldable pub said : Answer → Said
-said (Report n) = record { number = 0; line = 0; length = n }
-said (Refused n k) = record { number = n; line = k; length = 0 }
+said (Report n) = record { number = 0; line = 0; long = n }
+said (Refused n k) = record { number = n; line = k; long = 0 }
 
 -- an answer, and the report's text where it is a report
 pub record Outcome : Type 0 where
@@ -42,14 +43,14 @@ unfoldable pub walked : ℕ → Block → Findings → Outcome
 walked room b f = let fine = fitted room (report (b .table) f) in cond (tooMuch f) (refused 10 0) fine
 
 -- after the last line: 10, 11
-unfoldable pub judgedIn : ℕ → Parsed → Outcome
-judgedIn room (parsed b) = walked room b (findings b)
-judgedIn room (faulty n k) = refused n k
+unfoldable pub outcomeOf : ℕ → Parsed → Outcome
+outcomeOf room (parsed b) = walked room b (findings b)
+outcomeOf room (faulty n k) = refused n k
 
 -- Order: 1, 2, then line by line
 unfoldable pub outcome : List ℕ → ℕ → ℕ → Outcome
 outcome file cells room =
-    let read = judgedIn room (blockOf (lines file)) in
+    let read = outcomeOf room (blockOf (lines file)) in
     let sized = cond (ltb maxFile (length file)) (refused 2 0) read in
     cond (ltb cells scratchCells) (refused 1 0) sized
 
@@ -77,6 +78,10 @@ printedFor o = saying (o .answer)
     saying (Report n) = o .text
     saying (Refused n k) = bytes "refused " ++ decimal n ++ bytes " line " ++ decimal k ++ bytes "\n"
 
--- what the program prints for a file
-unfoldable pub printed : List ℕ → Text
-printed file = printedFor (outcome file scratchCells reportBytes)
+-- what is printed for a file, lent so many cells of scratch and bytes of buffer
+abbrev pub printed : List ℕ → ℕ → ℕ → Text
+printed file cells room = printedFor (outcome file cells room)
+
+-- what the program prints for a file: it lends 16,384 cells and 32,768 bytes
+unfoldable pub programPrints : List ℕ → Text
+programPrints file = printed file scratchCells reportBytes

@@ -5,12 +5,13 @@ use mathlib.Core.Bool.{true, false}
 use Prim.Native.Nat.{ℕ, _≤_, _<_}
 use lib.ListN.{length, drop, getD, length-replicate, getD-replicate}
 use borrow.Author.Tests.{lt-ltb, le-ltb, le-leb, lt-leb}
 use Rattle.scope.specs.Lists.{Text}
 use Rattle.scope.specs.Lines.{lines}
 use Rattle.scope.specs.Blocks.{Block, Parsed, parsed, faulty, blockOf}
-use Rattle.scope.specs.Report.{findings, tooMuch, report}
-use Rattle.answers.specs.declared.Answer.the-variants.{Report, Refused}
-use Rattle.answers.specs.Answer.{said, Outcome, refused, fitted, walked, judgedIn, outcome, answer, reportText, bufferAfter, scratchAfter}
+use Rattle.scope.specs.Driver.{findings, tooMuch}
+use Rattle.scope.specs.Report.{report}
+use Rattle.scope.specs.declared.Answer.the-variants.{Report, Refused}
+use Rattle.scope.specs.Answer.{said, Outcome, refused, fitted, walked, outcomeOf, outcome, answer, reportText, bufferAfter, scratchAfter}
 
 -- 11: whether the report fits its buffer
 pub fitted-in : (room : ℕ) (t : Text) → length t ≤ room → fitted room t ≡ record { answer = Report (length t); text = t }
@@ -30,21 +31,21 @@ pub outcome-2 : (file : List ℕ) (cells room : ℕ) → 16384 ≤ cells → 491
 unfolding outcome
 outcome-2 file cells room h l = rw (le-ltb cells 16384 h, lt-ltb 49152 (length file) l)
 
-pub outcome-lines : (file : List ℕ) (cells room : ℕ) → 16384 ≤ cells → length file ≤ 49152 → outcome file cells room ≡ judgedIn room (blockOf (lines file))
+pub outcome-lines : (file : List ℕ) (cells room : ℕ) → 16384 ≤ cells → length file ≤ 49152 → outcome file cells room ≡ outcomeOf room (blockOf (lines file))
 unfolding outcome
 outcome-lines file cells room h l = rw (le-ltb cells 16384 h, le-ltb 49152 (length file) l)
 
 -- the first faulty line decides; after the last line: 10, 11
-pub judged-faulty : (room n k : ℕ) (p : Parsed) → p ≡ faulty n k → judgedIn room p ≡ refused n k
-unfolding judgedIn
+pub judged-faulty : (room n k : ℕ) (p : Parsed) → p ≡ faulty n k → outcomeOf room p ≡ refused n k
+unfolding outcomeOf
 judged-faulty room n k p e = rw e
 
-pub judged-10 : (room : ℕ) (b : Block) (p : Parsed) → p ≡ parsed b → tooMuch (findings b) ≡ true → judgedIn room p ≡ refused 10 0
-unfolding judgedIn walked
+pub judged-10 : (room : ℕ) (b : Block) (p : Parsed) → p ≡ parsed b → tooMuch (findings b) ≡ true → outcomeOf room p ≡ refused 10 0
+unfolding outcomeOf walked
 judged-10 room b p e h = rw (e, h)
 
-pub judged-parsed : (room : ℕ) (b : Block) (p : Parsed) → p ≡ parsed b → tooMuch (findings b) ≡ false → judgedIn room p ≡ fitted room (report (b .table) (findings b))
-unfolding judgedIn walked
+pub judged-parsed : (room : ℕ) (b : Block) (p : Parsed) → p ≡ parsed b → tooMuch (findings b) ≡ false → outcomeOf room p ≡ fitted room (report (b .table) (findings b))
+unfolding outcomeOf walked
 judged-parsed room b p e h = rw (e, h)
 
 -- what the outcome says is what is answered and written
@@ -70,10 +71,10 @@ unfolding scratchAfter
 scratch-length s = length-replicate (length s) 0
 
 -- Number 0 is a report and its length
-pub said-report : (file : List ℕ) (cells room n : ℕ) → answer file cells room ≡ Report n → said (answer file cells room) ≡ record { number = 0; line = 0; length = n }
+pub said-report : (file : List ℕ) (cells room n : ℕ) → answer file cells room ≡ Report n → said (answer file cells room) ≡ record { number = 0; line = 0; long = n }
 unfolding said
 said-report file cells room n e = ap said e
 
-pub said-refused : (file : List ℕ) (cells room n k : ℕ) → answer file cells room ≡ Refused n k → said (answer file cells room) ≡ record { number = n; line = k; length = 0 }
+pub said-refused : (file : List ℕ) (cells room n k : ℕ) → answer file cells room ≡ Refused n k → said (answer file cells room) ≡ record { number = n; line = k; long = 0 }
 unfolding said
 said-refused file cells room n k e = ap said e

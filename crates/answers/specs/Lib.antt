@@ -1,2 +1,0 @@
--- Document 01's answer for a file, as definitions over those of `scope`.
-pub mod Answer

@@ -1,1 +1,0 @@
-// What is printed for small files, computed from the definitions. No code that runs.
