@@ -3,10 +3,10 @@ use mathlib.Core.Path.{_≡_, refl, sym, _∙_}
 use mathlib.Core.List.{List}
 use Prim.Native.Nat.{ℕ, _<_}
 use lib.ListN.{length, replicate}
-use Rattle.answers.specs.declared.Answer.{Answer}
-use Rattle.answers.specs.declared.Answer.the-variants.{Refused}
-use Rattle.answers.specs.Answer.{Outcome, refused, outcome, scratchAfter}
-use Rattle.answers.proofs.Answers.{outcome-1, answer-of, buffer-of}
+use Rattle.scope.specs.declared.Answer.{Answer}
+use Rattle.scope.specs.declared.Answer.the-variants.{Refused}
+use Rattle.scope.specs.Answer.{Outcome, refused, outcome, scratchAfter}
+use Rattle.scope.proofs.Answers.{outcome-1, answer-of, buffer-of}
 use Rattle.fitting.specs.Given.{Given}
 use Rattle.block.specs.Check.{Checked}
 

@@ -5,9 +5,9 @@ use Prim.Native.Nat.{ℕ}
 use native.Mathlib.Omega.{arith}
 use lib.ListN.{take}
 use Rattle.scope.specs.Lines.{lines}
-use Rattle.scope.specs.Patterns.{TypedRows}
+use Rattle.laws.specs.Typed.{TypedRows}
 use Rattle.scope.specs.Blocks.{Block, parsed, blockOf}
-use Rattle.scope.specs.Report.{findings}
+use Rattle.scope.specs.Driver.{findings}
 use Rattle.meaning.proofs.Parsing.{Good, block-good}
 use Rattle.meaning.proofs.Fitting.{all-suit}
 use Rattle.meaning.proofs.Gaps.{missing-typed}

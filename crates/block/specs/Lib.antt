@@ -1,5 +1,4 @@
--- What a check promises, the mission's demands of it, what is printed, and the answer as numbers.
+-- What a check promises, what is printed, and the answer as numbers.
 pub mod Check
-pub mod Mission
 pub mod Print
 pub mod Called

@@ -4,15 +4,10 @@ use mathlib.Core.List.{List}
 use Prim.Native.Nat.{ℕ}
 use lib.ListN.{length}
 use lib.Seq.{sets}
-use Rattle.scope.specs.Lists.{Text}
-use Rattle.answers.specs.Answer.{outcome, scratchAfter, printedFor}
+use Rattle.scope.specs.Answer.{printed, scratchAfter}
 
--- what is printed for a file: the report, or `refused N line K`
-abbrev pub textOf : List ℕ → ℕ → ℕ → Text
-textOf file cells room = printedFor (outcome file cells room)
-
--- it was put at the front of the buffer, cut at its end; its length r
+-- what is printed for a file, the report or `refused N line K`, was put at the front of the buffer, cut at its end; its length r
 pub record Prints (file scratch out : List ℕ) (r : ℕ) (out′ scratch′ : List ℕ) : Type 0 where
-  pub long : r ≡ length (textOf file (length scratch) (length out))
-  pub holds : out′ ≡ sets out 0 (textOf file (length scratch) (length out))
+  pub long : r ≡ length (printed file (length scratch) (length out))
+  pub holds : out′ ≡ sets out 0 (printed file (length scratch) (length out))
   pub scratchIs : scratch′ ≡ scratchAfter scratch

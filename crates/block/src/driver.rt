@@ -1,13 +1,13 @@
 // The driver: a file is read, and its block is judged.
-use answers::Answer;
 use cells::clear;
 use judging::judged;
 use reading::file::Parsed;
 use reading::file::read;
+use scope::Answer;
 ghost use mathlib.Core.Path.{_≡_};
 ghost use Prim.Native.Nat.{_≤_};
 ghost use lib.ListN.{length, replicate};
-ghost use Rattle.answers.specs.Answer.{outcome};
+ghost use Rattle.scope.specs.Answer.{outcome};
 ghost use Rattle.fitting.specs.Given.{Given};
 
 // The file read, then judged.

@@ -1,7 +1,7 @@
 // The check of a file: the one entry, which asks nothing of its caller.
 use crate::driver::answer;
-use answers::Answer;
 use cells::clear;
+use scope::Answer;
 ghost use Rattle.block.specs.Check.{Checked};
 
 mod driver;

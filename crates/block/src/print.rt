@@ -1,6 +1,6 @@
 // What the program prints for a file.
 use crate::check;
-use answers::Answer;
+use scope::Answer;
 use wording::refusal;
 ghost use Prim.Native.Nat.{_≤_};
 ghost use lib.ListN.{length};
@@ -13,7 +13,7 @@ pub fn print(file: &[u8], scratch: &mut [u16], out: &mut [u8]) -> usize
 {
     let r = check(file, scratch, out);
     match r {
-        Answer::Report { length } => length,
+        Answer::Report { long } => long,
         Answer::Refused { number, line } => refusal(number, line, out, 0),
     }
 }

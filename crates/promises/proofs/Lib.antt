@@ -1,0 +1,8 @@
+-- That a check with the definitions' answer meets the mission, that the mission fixes that answer, and what it shuts out.
+pub mod Own
+pub mod Promised
+pub mod Clean
+pub mod Said
+pub mod Listed
+pub mod Meets
+pub mod Excluded
