@@ -1,5 +1,5 @@
 -- Patterns as written, piece by piece, and one after another: what is reached after each, and how many follow. From the laws of one reader after another.
-use mathlib.Core.Path.{_≡_, refl, sym, ap, subst, _∙_}
+use mathlib.Core.Path.{_≡_, refl, sym, ap, ap₂, subst, _∙_}
 use mathlib.Core.List.{List, [], _∷_}
 use mathlib.Core.Bool.{Bool, true, false, cond}
 use Prim.Native.Nat.{ℕ, zero, suc, _+_, _-_, _≤_, _<_}
@@ -11,17 +11,35 @@ use lib.Dec.{eqb}
 use Rattle.scope.proofs.Tests.{clash}
 use Rattle.laws.proofs.Reading.{patterns-none, patterns-law}
 use Rattle.scope.specs.Lists.{Text, bit, among}
-use Rattle.scope.specs.Patterns.{Raw, variable, assign, number, string, listOf, constructor, inner}
+use Rattle.scope.specs.Patterns.{Raw, variable, assign, integerOf, byteStringOf, listOf, constructor, inner}
 use Rattle.scope.specs.Frames as scope
-use Rattle.scope.specs.Frames.{fault, found, Reader, andThen, _>>=_, give, byte, within, flag, times, choosing, smallName, isDecimal, text, patternKinds, pattern, patternsIn, patterns}
+use Rattle.scope.specs.Frames.{fault, found, Reader, andThen, _>>=_, give, byte, within, flag, times, choosing, smallName, isDecimal, textFrom, patternKinds, pattern, patternsIn, patterns}
 use Rattle.fields.specs.declared.Read.{Read}
 use Rattle.fields.specs.declared.Read.the-variants.{At, Fault}
 use Rattle.clause.specs.declared.Pattern.{Pattern}
 use Rattle.clause.specs.declared.Pattern as code
 use Rattle.fields.specs.Places.{placed, readAt}
-use Rattle.clause.specs.Written.{flagged, nothing, placedPattern, patternAt, leaving, leaves}
+use Rattle.clause.specs.Written.{flagged, nothing, saidPattern, saidPatternOf, placedPattern, patternAt, leaving, leaves}
 use Rattle.fields.proofs.Readers.{Tail, Left, Keeps, give-keeps, fault-keeps, byte-keeps, passing-keeps, bind-keeps, judging-keeps, times-keeps, Every, choosing-keeps, fault-stays, give-stays, goes-on, found-at, place-back, tail-tail, tail-place, tail-length, drop-tail, Skipped, chosen, chosen-none}
 use Rattle.fields.proofs.Readings.{name-keeps, flag-bit, flag-keeps}
+
+-- an answer is the place that was reached, and the count, exactly when it says what the pattern's reader says
+said-placed : (n : ℕ) (x : scope.Read Raw) → saidPattern (placedPattern n x) ≡ saidPatternOf n x
+unfolding placedPattern saidPatternOf
+said-placed n (fault rest) = refl
+said-placed n (found p rest) = refl
+
+same-said : (r s : Pattern) → saidPattern r ≡ saidPattern s → r ≡ s
+same-said (code.the-variants.At p k) (code.the-variants.At q j) e = let i = ap (λ x. x .0) e in let l : k ≡ j = cc in ap₂ code.the-variants.At (ap (λ x. x .1) e) l
+same-said (code.the-variants.At p k) (code.the-variants.Fault q) e = let i = ap (λ x. x .0) e in clash (cc)
+same-said (code.the-variants.Fault p) (code.the-variants.At q j) e = let i = ap (λ x. x .0) e in clash (cc)
+same-said (code.the-variants.Fault p) (code.the-variants.Fault q) e = ap (λ x. code.the-variants.Fault (x .1)) e
+
+pub pattern-tells : (n : ℕ) (x : scope.Read Raw) (r : Pattern) → r ≡ placedPattern n x → saidPattern r ≡ saidPatternOf n x
+pattern-tells n x r e = ap saidPattern e ∙ said-placed n x
+
+pub pattern-told : (n : ℕ) (x : scope.Read Raw) (r : Pattern) → saidPattern r ≡ saidPatternOf n x → r ≡ placedPattern n x
+pattern-told n x r e = same-said r (placedPattern n x) (e ∙ sym (said-placed n x))
 
 -- what was read leaves as many as what is made of it
 pub leaving-give : {A : Type 0} (n : ℕ) (x : scope.Read A) (f : A → Raw) (k : ℕ) → ((a : A) → inner (f a) ≡ k) → leaving k (placed n x) ≡ placedPattern n (andThen x (λ a. give (f a)))
@@ -130,17 +148,17 @@ pattern-none bytes at i h =
     ∙ ap (λ (r : Reader Raw). placedPattern (length bytes) (r (drop (at + 1) bytes))) (sym (List·getD-eq-default patternKinds (λ rest. fault (drop at bytes)) h))
     ∙ pattern-at bytes at (getD bytes at 0) i refl
 
-text-keeps : (lo : ℕ) (good : Text → Bool) → Keeps (text lo good)
+text-keeps : (lo : ℕ) (good : Text → Bool) → Keeps (textFrom lo good)
 text-keeps lo good = bind-keeps (within lo 64) _ (passing-keeps _) (λ n. judging-keeps good (times n byte) (times-keeps n byte byte-keeps))
 
 kinds-keep : Every patternKinds
-kinds-keep = (give-keeps _, (named variable, (named assign, (texted 1 isDecimal number, (texted 0 (λ t. true) string, (aList, (aCtor, (give-keeps _, (aTuple, tt)))))))))
+kinds-keep = (give-keeps _, (named variable, (named assign, (texted 1 isDecimal integerOf, (texted 0 (λ t. true) byteStringOf, (aList, (aCtor, (give-keeps _, (aTuple, tt)))))))))
   where
-    named : (p : Raw) → Keeps (smallName >>= λ n. give p)
-    named p = bind-keeps smallName _ (name-keeps false) (λ n. give-keeps p)
+    named : (p : Text → Raw) → Keeps (smallName >>= λ n. give (p n))
+    named p = bind-keeps smallName _ (name-keeps false) (λ n. give-keeps (p n))
 
-    texted : (lo : ℕ) (good : Text → Bool) (f : Text → Raw) → Keeps (text lo good >>= λ t. give (f t))
-    texted lo good f = bind-keeps (text lo good) _ (text-keeps lo good) (λ t. give-keeps (f t))
+    texted : (lo : ℕ) (good : Text → Bool) (f : Text → Raw) → Keeps (textFrom lo good >>= λ t. give (f t))
+    texted lo good f = bind-keeps (textFrom lo good) _ (text-keeps lo good) (λ t. give-keeps (f t))
 
     aList : Keeps (getD patternKinds 5 nothing)
     aList = bind-keeps byte _ byte-keeps (λ k. bind-keeps flag _ flag-keeps (λ tail. give-keeps _))

@@ -3,8 +3,8 @@ ghost use mathlib.Core.Path.{_≡_};
 ghost use Prim.Native.Nat.{_+_, _*_, _≤_, _<_, _^_};
 ghost use lib.ListN.{length, getD};
 ghost use Rattle.scope.specs.Frames.{patternKinds, pattern, patterns};
-ghost use Rattle.fields.specs.Places.{readAt};
-ghost use Rattle.clause.specs.Written.{flagged, nothing, patternAt, leaving, leaves};
+ghost use Rattle.fields.specs.Places.{saidRead, saidAt, readAt};
+ghost use Rattle.clause.specs.Written.{flagged, nothing, saidPattern, saidPatternAt, patternAt, leaving, leaves};
 use cells::at8;
 use cells::wide8;
 use fields::Read;
@@ -75,7 +75,7 @@ fn tuple_pattern(bytes: &[u8], at: usize) -> Pattern
 // One pattern as written, without its inner ones.
 pub fn one_pattern(bytes: &[u8], at: usize) -> Pattern
     requires { ⌜ at ≤ length (now bytes) ⌝ }
-    ensures { λ r. ⌜ r ≡ patternAt (now (bytes .entry)) at pattern ⌝ }
+    ensures { λ r. ⌜ saidPattern r ≡ saidPatternAt (now (bytes .entry)) at pattern ⌝ }
     ensures { λ r. ⌜ leaves r ≤ 256 ⌝ }
 {
     if bytes.len() <= at {
@@ -107,7 +107,7 @@ pub fn one_pattern(bytes: &[u8], at: usize) -> Pattern
 pub fn patterns(bytes: &[u8], at: usize, n: usize) -> Read
     requires { ⌜ at ≤ length (now bytes) ⌝ }
     requires { ⌜ n + 256 * length (now bytes) < 2 ^ 64 ⌝ }
-    ensures { λ r. ⌜ r ≡ readAt (now (bytes .entry)) at (patterns n) ⌝ }
+    ensures { λ r. ⌜ saidRead r ≡ saidAt (now (bytes .entry)) at (patterns n) ⌝ }
 {
     let mut p = at;
     let mut left = n;

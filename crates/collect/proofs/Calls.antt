@@ -16,8 +16,9 @@ use Rattle.walks.specs.Walks.{gatherFrom, missingBy, missingSeen, missingBody, 
 use Rattle.matrix.specs.Places.{headAt, steps, Few, Places, Written, Listed}
 use Rattle.ctors.specs.Sets.{ctorsOf}
 use Rattle.ctors.proofs.Found.{complete-is}
-use Rattle.outcomes.specs.Past.{past, counting}
-use Rattle.outcomes.proofs.Tests.{passed}
+use Rattle.outcomes.specs.Past.{saidSpelt, saidSeek, past, counting}
+use Rattle.scope.specs.Blocks.{ok}
+use Rattle.outcomes.proofs.Tests.{same-seek, passed}
 use Rattle.paths.specs.Path.{Step, under, stepped, stepOf, pathOf, spelt}
 use Rattle.collect.specs.Ready.{Opened, Held, Trail, Sought}
 use Rattle.paths.specs.Spread.{Spread}
@@ -268,16 +269,16 @@ module _ (bytes nodes left counts ars : List ℕ) where
           (sought-calls s rows path alts depth out written found calls room (rows * n) (turned (under ars (pathOf path alts depth)) body)))
 
       module _ (fit : rows * n ≤ room) (lt : calls < 65536) where
-        pub is-leaf : rows ≡ 0 → (v : Spelt) (oe : List ℕ) → Spread out written found (under ars (pathOf path alts depth) (replicate n 0 ∷ [])) v oe → (pe : List ℕ) → pe ≡ path → (x : Seek) → x ≡ counting v calls
+        pub is-leaf : rows ≡ 0 → (v : Spelt) (oe : List ℕ) → Spread out written found (under ars (pathOf path alts depth) (replicate n 0 ∷ [])) v oe → (pe : List ℕ) → pe ≡ path → (x : Seek) → saidSeek x ≡ counting (saidSpelt v) calls
             → Sought s rows s path pe alts alts depth out oe written found calls room x (turned (under ars (pathOf path alts depth)) (missingOf bytes counts ars n (matrix nodes left n (take rows s))))
         is-leaf z v oe h pe pq x xe = sought-same s rows s path pe alts alts depth out oe written found calls room x _ _ (entered (plain (replicate n 0 ∷ [])) (in-none z))
             (sought-leaf s rows path alts depth out written found calls room (rows * n) (under ars (pathOf path alts depth) (replicate n 0 ∷ [])) fit lt v oe h pe pq x xe)
 
-        pub is-zero : 0 < rows → n ≡ 0 → (x : Seek) → x ≡ Done written found (calls + 1) → Sought s rows s path path alts alts depth out out written found calls room x (turned (under ars (pathOf path alts depth)) (missingOf bytes counts ars n (matrix nodes left n (take rows s))))
+        pub is-zero : 0 < rows → n ≡ 0 → (x : Seek) → saidSeek x ≡ ok (written, (found, calls + 1)) → Sought s rows s path path alts alts depth out out written found calls room x (turned (under ars (pathOf path alts depth)) (missingOf bytes counts ars n (matrix nodes left n (take rows s))))
         is-zero l z x xe = sought-same s rows s path path alts alts depth out out written found calls room x _ _
             (ap (λ (y : Rows). holding (rows * n) (plain y)) (sym (under-none ars (pathOf path alts depth))) ∙ entered (plain []) (in-zero l z))
             (sought-enter s rows s path path alts alts depth out out written found calls room x (rows * n) (plain []) fit
-            (subst (λ (y : Seek). Sought s rows s path path alts alts depth out out written found (calls + 1) (room - rows * n) y (plain [])) (sym xe)
+            (subst (λ (y : Seek). Sought s rows s path path alts alts depth out out written found (calls + 1) (room - rows * n) y (plain [])) (sym (same-seek x (Done written found (calls + 1)) xe))
             (sought-none s rows path alts depth out written found (calls + 1) (room - rows * n) 0 (omega arith) (tr .within) (tr .few))))
 
         -- a column, by what is seen in it

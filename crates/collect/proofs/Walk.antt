@@ -13,7 +13,8 @@ use Rattle.scope.proofs.Tests.{clash}
 use Rattle.matrix.specs.Numbers.{Rows}
 use Rattle.paths.specs.Spread.{Spread, Spelling}
 use Rattle.collect.specs.Ready.{Trail, Sought}
-use Rattle.outcomes.specs.Past.{counting}
+use Rattle.outcomes.specs.Past.{saidSpelt, saidSeek, counting}
+use Rattle.outcomes.proofs.Tests.{same-seek}
 use Rattle.outcomes.specs.declared.Spelt.{Spelt}
 use Rattle.outcomes.specs.declared.Spelt.the-variants as spelt
 use Rattle.outcomes.specs.declared.Seek.{Seek}
@@ -92,7 +93,7 @@ module _ (s : List ℕ) (rows : ℕ) (path alts : List ℕ) (depth : ℕ) (out :
 
   module _ (m : Rows) (fits : cells ≤ room) (lt : calls < 65536) (v : Spelt) (oe : List ℕ) (h : Spread out written found m v oe) (pe : List ℕ) (pq : pe ≡ path) where
     leaf-over : v ≡ spelt.Over → Sought s rows s path pe alts alts depth out oe written found calls room Over (holding cells (plain m))
-    leaf-over q = record { kept = refl; keptPath = ap (take depth) pq; keptAlts = refl; longPath = ap length pq; longAlts = refl; longOut = h .long; is = over-leaf calls room written found cells m fits lt (sym q ∙ h .is); text = λ w k c z. clash (cc); few = λ w k c z. clash (cc) }
+    leaf-over q = record { kept = refl; keptPath = ap (take depth) pq; keptAlts = refl; longPath = ap length pq; longAlts = refl; longOut = h .long; is = over-leaf calls room written found cells m fits lt (sym (ap saidSpelt q) ∙ h .is); text = λ w k c z. clash (cc); few = λ w k c z. clash (cc) }
 
     leaf-done : (n k : ℕ) → v ≡ spelt.Done n k → Sought s rows s path pe alts alts depth out oe written found calls room (Done n k (calls + 1)) (holding cells (plain m))
     leaf-done n k q = record {
@@ -102,25 +103,25 @@ module _ (s : List ℕ) (rows : ℕ) (path alts : List ℕ) (depth : ℕ) (out :
       longPath = ap length pq;
       longAlts = refl;
       longOut = h .long;
-      is = done-leaf calls room written found cells m fits lt n k (sym q ∙ h .is);
+      is = done-leaf calls room written found cells m fits lt n k (sym (ap saidSpelt q) ∙ h .is);
       text = λ w j c z. h .text n k q;
       few = λ w j c z. let x : n ≡ w = cc in let y : k ≡ j = cc in omega (arith, h .few n k q);
     }
 
-    pub sought-leaf : (x : Seek) → x ≡ counting v calls → Sought s rows s path pe alts alts depth out oe written found calls room x (holding cells (plain m))
+    pub sought-leaf : (x : Seek) → saidSeek x ≡ counting (saidSpelt v) calls → Sought s rows s path pe alts alts depth out oe written found calls room x (holding cells (plain m))
     sought-leaf x e = go v refl
       where
         go : (u : Spelt) → v ≡ u → Sought s rows s path pe alts alts depth out oe written found calls room x (holding cells (plain m))
-        go (spelt.Done n k) q = subst (λ (y : Seek). Sought s rows s path pe alts alts depth out oe written found calls room y (holding cells (plain m))) (sym (e ∙ ap (λ (u : Spelt). counting u calls) q)) (leaf-done n k q)
-        go spelt.Over q = subst (λ (y : Seek). Sought s rows s path pe alts alts depth out oe written found calls room y (holding cells (plain m))) (sym (e ∙ ap (λ (u : Spelt). counting u calls) q)) (leaf-over q)
+        go (spelt.Done n k) q = subst (λ (y : Seek). Sought s rows s path pe alts alts depth out oe written found calls room y (holding cells (plain m))) (sym (same-seek x (Done n k (calls + 1)) (e ∙ ap (λ (u : Spelt). counting (saidSpelt u) calls) q))) (leaf-done n k q)
+        go spelt.Over q = subst (λ (y : Seek). Sought s rows s path pe alts alts depth out oe written found calls room y (holding cells (plain m))) (sym (same-seek x Over (e ∙ ap (λ (u : Spelt). counting (saidSpelt u) calls) q))) (leaf-over q)
 
 -- one walk, then another
 module _ (s : List ℕ) (rows : ℕ) (e path pe alts ae : List ℕ) (depth : ℕ) (out oe : List ℕ) (written found calls room : ℕ) (r : Seek) (a b : Walk Rows) (h : Sought s rows e path pe alts ae depth out oe written found calls room r a) where
   pub sought-over : r ≡ Over → Sought s rows e path pe alts ae depth out oe written found calls room Over (joined _++_ a b)
-  sought-over q = record { kept = h .kept; keptPath = h .keptPath; keptAlts = h .keptAlts; longPath = h .longPath; longAlts = h .longAlts; longOut = h .longOut; is = join-over calls room written found a b (sym q ∙ h .is); text = λ w k c z. clash (cc); few = λ w k c z. clash (cc) }
+  sought-over q = record { kept = h .kept; keptPath = h .keptPath; keptAlts = h .keptAlts; longPath = h .longPath; longAlts = h .longAlts; longOut = h .longOut; is = join-over calls room written found a b (sym (ap saidSeek q) ∙ h .is); text = λ w k c z. clash (cc); few = λ w k c z. clash (cc) }
 
   pub sought-done : (w k c : ℕ) → r ≡ Done w k c → IsDone calls room written found a w k c
-  sought-done w k c q = done-is calls room written found a w k c (sym q ∙ h .is)
+  sought-done w k c q = done-is calls room written found a w k c (sym (ap saidSeek q) ∙ h .is)
 
   pub sought-then : (w k c : ℕ) → r ≡ Done w k c → (e₂ pe₂ ae₂ oe₂ : List ℕ) (r₂ : Seek) → Sought e rows e₂ pe pe₂ ae ae₂ depth oe oe₂ w k c room r₂ b → Sought s rows e₂ path pe₂ alts ae₂ depth out oe₂ written found calls room r₂ (joined _++_ a b)
   sought-then w k c q e₂ pe₂ ae₂ oe₂ r₂ h₂ = record {
@@ -130,7 +131,7 @@ module _ (s : List ℕ) (rows : ℕ) (e path pe alts ae : List ℕ) (depth : ℕ
     longPath = h₂ .longPath ∙ h .longPath;
     longAlts = h₂ .longAlts ∙ h .longAlts;
     longOut = h₂ .longOut ∙ h .longOut;
-    is = h₂ .is ∙ join-then calls room written found a b w k c (sym q ∙ h .is);
+    is = h₂ .is ∙ join-then calls room written found a b w k c (sym (ap saidSeek q) ∙ h .is);
     text = λ w₂ k₂ c₂ z.
         let n : w ≡ written + length (flatten (a .result)) = sought-done w k c q .nodes ∙ ap (λ (x : ℕ). written + x) (sym (flatten-length (a .result))) in
         h₂ .text w₂ k₂ c₂ z ∙ ap₂ (λ (x : List ℕ) (y : ℕ). sets x y (flatten (b .result))) (h .text w k c q) n ∙ sets-sets (flatten (a .result)) (flatten (b .result)) out written ∙ ap (sets out written) (sym (flatten-append (a .result) (b .result)));

@@ -9,6 +9,8 @@ use lib.Dec.{leb}
 use Rattle.scope.specs.Limits.{maxMissing}
 use Rattle.scope.specs.Lists.{flatten}
 use Rattle.scope.specs.Walks.{Walk}
+use Rattle.scope.specs.Blocks.{Step, ok, refuse}
+use Rattle.outcomes.specs.Past.{saidSeek}
 use Rattle.outcomes.specs.declared.Seek.{Seek}
 use Rattle.outcomes.specs.declared.Seek.the-variants as seek
 use Rattle.matrix.specs.Numbers.{Rows}
@@ -16,12 +18,12 @@ use Rattle.matrix.specs.Places.{Places, Sizes}
 use Rattle.walks.specs.Limits.{within}
 use Rattle.paths.specs.Spread.{Low, nodesOf}
 
--- the answer of `collect_missing_patterns` after so many calls, nodes and rows: over exactly when a limit is passed
-unfoldable pub sought : ℕ → ℕ → ℕ → ℕ → Walk Rows → Seek
+-- what the answer of `collect_missing_patterns` says after so many calls, nodes and rows: 10 exactly when a limit is passed
+unfoldable pub sought : ℕ → ℕ → ℕ → ℕ → Walk Rows → Step (ℕ × (ℕ × ℕ))
 sought calls room written found w =
     cond (within calls room w && leb (written + nodesOf (w .result)) maxMissing)
-    (seek.Done (written + nodesOf (w .result)) (found + length (w .result)) (calls + w .calls))
-    seek.Over
+    (ok (written + nodesOf (w .result), (found + length (w .result), calls + w .calls)))
+    (refuse 10)
 
 -- every open call that has rows holds a cell or more: the path is never longer than what the room has lost
 pub record Trail (path alts : List ℕ) (depth room written found : ℕ) : Type 0 where
@@ -58,6 +60,6 @@ pub record Sought (s : List ℕ) (rows : ℕ) (e path pathEnd alts altsEnd : Lis
   pub longPath : length pathEnd ≡ length path
   pub longAlts : length altsEnd ≡ length alts
   pub longOut : length outEnd ≡ length out
-  pub is : r ≡ sought calls room written found o
+  pub is : saidSeek r ≡ sought calls room written found o
   pub text : (w k c : ℕ) → r ≡ seek.Done w k c → outEnd ≡ sets out written (flatten (o .result))
   pub few : (w k c : ℕ) → r ≡ seek.Done w k c → k ≤ w

@@ -11,11 +11,11 @@ use Rattle.scope.specs.Lists.{Text, bit, among}
 use Rattle.scope.specs.Types.{Ref, Ctor, Ty, integer, byteString, opaque, list, tuple, pair, dat}
 use Rattle.scope.specs.Frames as scope
 use Rattle.scope.specs.Frames.{fault, found, Reader, andThen, _>>=_, give, byte, passing, within, flag, times, bigName, smallName, typeKinds, typeFrame, fieldsFor, constructorFrame}
+use Rattle.scope.proofs.Tests.{among-is}
 use Rattle.fields.specs.declared.Read.{Read}
 use Rattle.fields.specs.declared.Read.the-variants.{At, Fault}
 use Rattle.fields.specs.Places.{placed, readAt}
 use Rattle.declarations.specs.Pieces.{countedBytes, field, fieldsWith, fields}
-use Rattle.letters.proofs.Laws.{among-true}
 use Rattle.fields.proofs.Readers.{Keeps, give-keeps, byte-keeps, passing-keeps, bind-keeps, times-keeps, choosing-keeps, fault-stays, give-stays, goes-on, found-at, fault-at, place-back, any, byte-reads, passing-ends, passing-stops, passing-goes, Passed, passed, read-stops, read-passes, Reached, times-stops, times-goes, after-byte, byte-at, bind-bind, chosen, chosen-none}
 use Rattle.fields.proofs.Readings.{name-keeps, flag-bit, flag-keeps}
 
@@ -149,7 +149,7 @@ module _ (bytes : List ℕ) (at labels n : ℕ) (inside : at ≤ length bytes) (
     where
       go : (x : Bool) → ltb at (length bytes) ≡ x → at < length bytes
       go true u = ltb-true at (length bytes) u
-      go false u = absurd (omega (arith, z, among-true labels 16 n fits, is ∙ List·getD-eq-default bytes 0 (ltb-false at (length bytes) u)))
+      go false u = absurd (omega (arith, z, among-is labels 16 n fits, is ∙ List·getD-eq-default bytes 0 (ltb-false at (length bytes) u)))
 
   module _ (fits : among labels 16 n ≡ true) (c : Read) (m : ℕ) (w : m ≡ n) where
     -- the fields, by what the flag says
@@ -182,7 +182,7 @@ module _ (bytes : List ℕ) (at labels n : ℕ) (inside : at ≤ length bytes) (
 
     pub fields-labelled : (labels ≡ 0 → ⊥) → c ≡ readAt bytes (at + 1) (times m field) → c ≡ readAt bytes at (fieldsWith (eqb labels 1))
     fields-labelled z e =
-        let b = among-true 0 1 labels flag in
+        let b = among-is 0 1 labels flag in
         let one : labels ≡ 1 = omega arith in
         fields-read (labels-inside fits z) (e ∙ fields-times m (length bytes) (drop (at + 1) bytes) ∙ ap (λ (l : ℕ). readAt bytes (at + 1) (fieldsFor (eqb l 1) m)) (sym one))
 

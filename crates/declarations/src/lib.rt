@@ -6,7 +6,7 @@ ghost use lib.ListN.{length};
 ghost use lib.Dec.{eqb};
 ghost use Rattle.scope.specs.Lists.{among};
 ghost use Rattle.scope.specs.Frames.{times, typeFrame, constructorFrame};
-ghost use Rattle.fields.specs.Places.{readAt};
+ghost use Rattle.fields.specs.Places.{saidRead, saidAt, readAt};
 ghost use Rattle.declarations.specs.Pieces.{countedBytes, field, fieldsWith, fields};
 use cells::at8;
 use cells::wide8;
@@ -33,7 +33,7 @@ fn tuple_type(bytes: &[u8], at: usize) -> Read
 // 01 type.
 pub fn type_frame(bytes: &[u8], at: usize) -> Read
     requires { ⌜ at ≤ length (now bytes) ⌝ }
-    ensures { λ r. ⌜ r ≡ readAt (now (bytes .entry)) at typeFrame ⌝ }
+    ensures { λ r. ⌜ saidRead r ≡ saidAt (now (bytes .entry)) at typeFrame ⌝ }
 {
     if bytes.len() <= at {
         return Read::Fault(at);
@@ -113,7 +113,7 @@ fn fields(bytes: &[u8], at: usize) -> Read
 // 02 constructor.
 pub fn constructor_frame(bytes: &[u8], at: usize) -> Read
     requires { ⌜ at ≤ length (now bytes) ⌝ }
-    ensures { λ r. ⌜ r ≡ readAt (now (bytes .entry)) at constructorFrame ⌝ }
+    ensures { λ r. ⌜ saidRead r ≡ saidAt (now (bytes .entry)) at constructorFrame ⌝ }
 {
     let n = name(bytes, at, true);
     let Read::At(from) = n else {

@@ -10,11 +10,29 @@ use lib.Dec.{leb, ltb}
 use borrow.Author.Tests.{ltb-true, ltb-false, leb-true, leb-false}
 use Rattle.scope.proofs.Tests.{clash}
 use Rattle.scope.specs.Frames as scope
-use Rattle.scope.specs.Frames.{fault, found, Reader, andThen, _>>=_, give, byte, passing, times, choosing, judging}
+use Rattle.scope.specs.Frames.{fault, found, Reader, andThen, _>>=_, give, byte, passing, times, choosing, onlyIf}
 use Rattle.cells.proofs.Parts.{left}
 use Rattle.fields.specs.declared.Read.{Read}
 use Rattle.fields.specs.declared.Read.the-variants.{At, Fault}
-use Rattle.fields.specs.Places.{placed, readAt}
+use Rattle.fields.specs.Places.{saidRead, saidOf, placed, readAt}
+
+-- an answer is the place that was reached exactly when it says what the reader says
+said-placed : {A : Type 0} (n : ℕ) (x : scope.Read A) → saidRead (placed n x) ≡ saidOf n x
+unfolding placed saidOf
+said-placed n (fault rest) = refl
+said-placed n (found a rest) = refl
+
+same-said : (r s : Read) → saidRead r ≡ saidRead s → r ≡ s
+same-said (At p) (At q) e = ap (λ x. At (x .1)) e
+same-said (At p) (Fault q) e = let i = ap (λ x. x .0) e in clash (cc)
+same-said (Fault p) (At q) e = let i = ap (λ x. x .0) e in clash (cc)
+same-said (Fault p) (Fault q) e = ap (λ x. Fault (x .1)) e
+
+pub tells : {A : Type 0} (n : ℕ) (x : scope.Read A) (r : Read) → r ≡ placed n x → saidRead r ≡ saidOf n x
+tells n x r e = ap saidRead e ∙ said-placed n x
+
+pub told : {A : Type 0} (n : ℕ) (x : scope.Read A) (r : Read) → saidRead r ≡ saidOf n x → r ≡ placed n x
+told n x r e = same-said r (placed n x) (e ∙ sym (said-placed n x))
 
 -- a list is another's tail
 pub data Tail : List ℕ → List ℕ → Type 0 where
@@ -87,7 +105,7 @@ bind-keeps {A} r f h k = record { leaves = λ bs. go bs (r bs) (h .leaves bs) }
     go bs (fault rest) u = u
     go bs (found a rest) u = left-more (f a rest) u (k a .leaves rest)
 
-pub judging-keeps : {A : Type 0} (good : A → Bool) (r : Reader A) → Keeps r → Keeps (judging good r)
+pub judging-keeps : {A : Type 0} (good : A → Bool) (r : Reader A) → Keeps r → Keeps (onlyIf good r)
 judging-keeps {A} good r h = record { leaves = λ bs. go bs (r bs) (h .leaves bs) }
   where
     test : (a : A) (bs rest : List ℕ) (x : Bool) → Tail rest bs → Left (cond x (found a rest) (fault bs)) bs

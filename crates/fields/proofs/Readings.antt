@@ -8,8 +8,8 @@ use lib.ListN.{length, getD, take, drop}
 use lib.Dec.{eqb}
 use Rattle.scope.specs.Lists.{Text, bit, among}
 use Rattle.scope.specs.Frames as scope
-use Rattle.scope.specs.Frames.{fault, found, Reader, andThen, _>>=_, give, byte, passing, within, flag, times, judging, isUpper, isLower, isSmall, isBig, bigName, smallName, text}
-use Rattle.letters.proofs.Laws.{among-true}
+use Rattle.scope.specs.Frames.{fault, found, Reader, andThen, _>>=_, give, byte, passing, within, flag, times, onlyIf, isSmall, isBig, bigName, smallName, textFrom}
+use Rattle.scope.proofs.Tests.{among-is}
 use Rattle.fields.specs.declared.Read.{Read}
 use Rattle.fields.specs.declared.Read.the-variants.{At, Fault}
 use Rattle.fields.specs.Places.{placed, readAt, letterOf, nameOf}
@@ -50,7 +50,7 @@ module _ (big : Bool) (bytes : List ℕ) (at n : ℕ) (inside : at ≤ length by
       ∙ ap (placed (length bytes)) (name-is big (drop at bytes))
 
   pub name-counted : among 1 32 n ≡ true → (0 < n) × (at < length bytes)
-  name-counted g = (among-true 1 32 n g .0, read-passes (among 1 32) refl bytes at n is g .inside)
+  name-counted g = (among-is 1 32 n g .0, read-passes (among 1 32) refl bytes at n is g .inside)
 
   module _ (b : ℕ) (first : b ≡ getD bytes (at + 1) 0) (counted : among 1 32 n ≡ true) where
     pub name-first : letterOf big true b ≡ false → Fault (at + 1) ≡ readAt bytes at (nameOf big)
@@ -78,34 +78,34 @@ module _ (big : Bool) (bytes : List ℕ) (at n : ℕ) (inside : at ≤ length by
 
 -- A text of lo to 64 bytes
 module _ (lo : ℕ) (good : Text → Bool) (bytes : List ℕ) (at : ℕ) (c : Read) where
-  pub text-length : (q : ℕ) → c ≡ readAt bytes at (within lo 64) → c ≡ Fault q → c ≡ readAt bytes at (text lo good)
-  text-length q e f = fault-stays (length bytes) (within lo 64 (drop at bytes)) (λ n. judging good (times n byte)) c q e f
+  pub text-length : (q : ℕ) → c ≡ readAt bytes at (within lo 64) → c ≡ Fault q → c ≡ readAt bytes at (textFrom lo good)
+  text-length q e f = fault-stays (length bytes) (within lo 64 (drop at bytes)) (λ n. onlyIf good (times n byte)) c q e f
 
-  pub text-short : (q n p : ℕ) → Passed (among lo 64) bytes at q → n ≡ getD bytes at 0 → c ≡ readAt bytes q (times n byte) → c ≡ Fault p → c ≡ readAt bytes at (text lo good)
+  pub text-short : (q n p : ℕ) → Passed (among lo 64) bytes at q → n ≡ getD bytes at 0 → c ≡ readAt bytes q (times n byte) → c ≡ Fault p → c ≡ readAt bytes at (textFrom lo good)
   text-short q n p x m e f =
       fault-stays (length bytes) (times n byte (drop q bytes)) (λ a rest. cond (good a) (found a rest) (fault (drop q bytes))) c p e f
-      ∙ ap (λ (k : ℕ). readAt bytes q (judging good (times k byte))) m
-      ∙ sym (goes-on (within lo 64) (λ n. judging good (times n byte)) bytes at q (getD bytes at 0) (x .reads))
+      ∙ ap (λ (k : ℕ). readAt bytes q (onlyIf good (times k byte))) m
+      ∙ sym (goes-on (within lo 64) (λ n. onlyIf good (times n byte)) bytes at q (getD bytes at 0) (x .reads))
 
   -- judged whole, by the bytes between two places
-  text-judged : (q n p : ℕ) (x : Bool) → Passed (among lo 64) bytes at q → n ≡ getD bytes at 0 → Skipped n bytes q p → good (take n (drop q bytes)) ≡ x → placed (length bytes) (cond x (found (take n (drop q bytes)) (drop p bytes)) (fault (drop q bytes))) ≡ readAt bytes at (text lo good)
+  text-judged : (q n p : ℕ) (x : Bool) → Passed (among lo 64) bytes at q → n ≡ getD bytes at 0 → Skipped n bytes q p → good (take n (drop q bytes)) ≡ x → placed (length bytes) (cond x (found (take n (drop q bytes)) (drop p bytes)) (fault (drop q bytes))) ≡ readAt bytes at (textFrom lo good)
   text-judged q n p x y m s g =
       ap (λ (b : Bool). placed (length bytes) (cond b (found (take n (drop q bytes)) (drop p bytes)) (fault (drop q bytes)))) (sym g)
       ∙ sym (ap (λ (z : scope.Read Text). placed (length bytes) (andThen z (λ a rest. cond (good a) (found a rest) (fault (drop q bytes))))) (s .reads))
-      ∙ ap (λ (k : ℕ). readAt bytes q (judging good (times k byte))) m
-      ∙ sym (goes-on (within lo 64) (λ n. judging good (times n byte)) bytes at q (getD bytes at 0) (y .reads))
+      ∙ ap (λ (k : ℕ). readAt bytes q (onlyIf good (times k byte))) m
+      ∙ sym (goes-on (within lo 64) (λ n. onlyIf good (times n byte)) bytes at q (getD bytes at 0) (y .reads))
 
-  pub text-good : (q n p : ℕ) → Passed (among lo 64) bytes at q → n ≡ getD bytes at 0 → Skipped n bytes q p → good (take n (drop q bytes)) ≡ true → c ≡ At p → c ≡ readAt bytes at (text lo good)
+  pub text-good : (q n p : ℕ) → Passed (among lo 64) bytes at q → n ≡ getD bytes at 0 → Skipped n bytes q p → good (take n (drop q bytes)) ≡ true → c ≡ At p → c ≡ readAt bytes at (textFrom lo good)
   unfolding placed
   text-good q n p y m s g e = e ∙ ap At (sym (place-back bytes p (s .inside))) ∙ text-judged q n p true y m s g
 
-  pub text-bad : (q n p : ℕ) → Passed (among lo 64) bytes at q → n ≡ getD bytes at 0 → Skipped n bytes q p → good (take n (drop q bytes)) ≡ false → c ≡ Fault q → c ≡ readAt bytes at (text lo good)
+  pub text-bad : (q n p : ℕ) → Passed (among lo 64) bytes at q → n ≡ getD bytes at 0 → Skipped n bytes q p → good (take n (drop q bytes)) ≡ false → c ≡ Fault q → c ≡ readAt bytes at (textFrom lo good)
   unfolding placed
   text-bad q n p y m s g e = e ∙ ap Fault (sym (place-back bytes q (omega (arith, s .next, s .inside)))) ∙ text-judged q n p false y m s g
 
 -- 00 and 01 are their own bits
 pub flag-bit : (b : ℕ) → among 0 1 b ≡ true → bit (eqb b 1) ≡ b
-flag-bit b h = go b (among-true 0 1 b h .1)
+flag-bit b h = go b (among-is 0 1 b h .1)
   where
     go : (b : ℕ) → b ≤ 1 → bit (eqb b 1) ≡ b
     go zero l = refl

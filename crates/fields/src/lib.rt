@@ -3,8 +3,8 @@ ghost use mathlib.Core.Path.{_≡_};
 ghost use mathlib.Core.Bool.{false};
 ghost use Prim.Native.Nat.{_≤_};
 ghost use lib.ListN.{length};
-ghost use Rattle.scope.specs.Frames.{byte, passing, within, times, text};
-ghost use Rattle.fields.specs.Places.{readAt, letterOf, nameOf, judged};
+ghost use Rattle.scope.specs.Frames.{byte, passing, within, times, textFrom};
+ghost use Rattle.fields.specs.Places.{saidRead, saidAt, readAt, letterOf, nameOf, judged};
 use cells::at8;
 use cells::wide8;
 use lengths::is_name_length;
@@ -23,7 +23,7 @@ pub enum Read {
 // One byte.
 pub fn byte(bytes: &[u8], at: usize) -> Read
     requires { ⌜ at ≤ length (now bytes) ⌝ }
-    ensures { λ r. ⌜ r ≡ readAt (now (bytes .entry)) at byte ⌝ }
+    ensures { λ r. ⌜ saidRead r ≡ saidAt (now (bytes .entry)) at byte ⌝ }
 {
     if bytes.len() <= at {
         return Read::Fault(at);
@@ -34,7 +34,7 @@ pub fn byte(bytes: &[u8], at: usize) -> Read
 // A byte from lo to hi.
 pub fn within(bytes: &[u8], at: usize, lo: u8, hi: u8) -> Read
     requires { ⌜ at ≤ length (now bytes) ⌝ }
-    ensures { λ r. ⌜ r ≡ readAt (now (bytes .entry)) at (within lo hi) ⌝ }
+    ensures { λ r. ⌜ saidRead r ≡ saidAt (now (bytes .entry)) at (within lo hi) ⌝ }
 {
     if bytes.len() <= at {
         return Read::Fault(at);
@@ -48,7 +48,7 @@ pub fn within(bytes: &[u8], at: usize, lo: u8, hi: u8) -> Read
 // n bytes.
 pub fn skip(bytes: &[u8], at: usize, n: usize) -> Read
     requires { ⌜ at ≤ length (now bytes) ⌝ }
-    ensures { λ r. ⌜ r ≡ readAt (now (bytes .entry)) at (times n byte) ⌝ }
+    ensures { λ r. ⌜ saidRead r ≡ saidAt (now (bytes .entry)) at (times n byte) ⌝ }
 {
     if bytes.len() - at < n {
         return Read::Fault(bytes.len());
@@ -92,7 +92,7 @@ fn letters(bytes: &[u8], at: usize, n: usize, big: bool) -> Read
 // A name: its length from 1 to 32, then its bytes.
 pub fn name(bytes: &[u8], at: usize, big: bool) -> Read
     requires { ⌜ at ≤ length (now bytes) ⌝ }
-    ensures { λ r. ⌜ r ≡ readAt (now (bytes .entry)) at (nameOf big) ⌝ }
+    ensures { λ r. ⌜ saidRead r ≡ saidAt (now (bytes .entry)) at (nameOf big) ⌝ }
 {
     let n = at8(bytes, at);
     if !is_name_length(n) {
@@ -107,7 +107,7 @@ pub fn name(bytes: &[u8], at: usize, big: bool) -> Read
 // A text: its length from lo to 64, then its bytes; decimal text is judged whole.
 pub fn text(bytes: &[u8], at: usize, lo: u8, decimal: bool) -> Read
     requires { ⌜ at ≤ length (now bytes) ⌝ }
-    ensures { λ r. ⌜ r ≡ readAt (now (bytes .entry)) at (text lo (judged decimal)) ⌝ }
+    ensures { λ r. ⌜ saidRead r ≡ saidAt (now (bytes .entry)) at (textFrom lo (judged decimal)) ⌝ }
 {
     let n = within(bytes, at, lo, 64);
     let Read::At(from) = n else {

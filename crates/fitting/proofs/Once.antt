@@ -3,10 +3,11 @@ use mathlib.Core.Path.{_≡_, sym, _∙_}
 use mathlib.Core.List.{List}
 use Prim.Native.Nat.{ℕ}
 use lib.ListN.{length}
-use Rattle.answers.specs.declared.Answer.{Answer}
+use Rattle.scope.specs.declared.Answer.{Answer}
 use Rattle.scope.specs.Types.{Table}
-use Rattle.scope.specs.Report.{Findings, report}
-use Rattle.answers.specs.Answer.{Outcome, fitted}
+use Rattle.scope.specs.Driver.{Findings}
+use Rattle.scope.specs.Report.{report}
+use Rattle.scope.specs.Answer.{Outcome, fitted}
 use Rattle.text.specs.Rows.{Slices}
 use Rattle.text.specs.Findings.{Says}
 use Rattle.fitting.specs.Given.{Given}

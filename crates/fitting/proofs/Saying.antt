@@ -9,13 +9,13 @@ use lib.ListN.{length, take, drop, length-take, length-drop, take-append-drop}
 use lib.Seq.{sets, sets-eq, length-sets}
 use lib.Dec.{leb}
 use borrow.Author.Tests.{leb-true, leb-false}
-use Rattle.answers.specs.declared.Answer.{Answer}
-use Rattle.answers.specs.declared.Answer.the-variants.{Report, Refused}
+use Rattle.scope.specs.declared.Answer.{Answer}
+use Rattle.scope.specs.declared.Answer.the-variants.{Report, Refused}
 use Rattle.scope.specs.Lists.{Text}
 use Rattle.scope.proofs.Tests.{clash}
-use Rattle.answers.specs.Answer.{Outcome, fitted}
+use Rattle.scope.specs.Answer.{Outcome, fitted}
 use Rattle.writing.specs.Writing.{Wrote}
-use Rattle.answers.proofs.Answers.{fitted-in, fitted-over}
+use Rattle.scope.proofs.Answers.{fitted-in, fitted-over}
 use Rattle.fitting.specs.Given.{Given}
 
 -- a text in front of a buffer

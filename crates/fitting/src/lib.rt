@@ -1,11 +1,12 @@
 // The report fitted to its buffer: refusal 11.
-use answers::Answer;
 use numbers::fit;
+use scope::Answer;
 use text::lines::report as write_report;
 ghost use lib.ListN.{length};
 ghost use Rattle.scope.specs.Types.{Table};
-ghost use Rattle.scope.specs.Report.{Findings, report as reportText};
-ghost use Rattle.answers.specs.Answer.{fitted};
+ghost use Rattle.scope.specs.Driver.{Findings};
+ghost use Rattle.scope.specs.Report.{report as reportText};
+ghost use Rattle.scope.specs.Answer.{fitted};
 ghost use Rattle.text.specs.Rows.{slices};
 ghost use Rattle.text.specs.Findings.{Says, Small};
 ghost use Rattle.fitting.specs.Given.{Given};

@@ -5,11 +5,10 @@ use Prim.Native.Nat.{ℕ, _+_, _≤_, _<_}
 use lib.ListN.{length, getD}
 use denote.Ref.{RefT, now}
 use Rattle.scope.specs.Frames as scope
-use Rattle.fields.specs.Places.{readAt}
+use Rattle.fields.specs.Places.{saidRead, saidAt}
 use Rattle.frames.specs.Wholes.{whole}
-use Rattle.frames.specs.Lines.{frameOf}
+use Rattle.frames.specs.Lines.{saidFramed, frameOf}
 use Rattle.fields.specs.declared.Read.{Read}
-use Rattle.frames.specs.declared.Framed.{Framed}
 use Rattle.frames.specs.declared.Reader.{Reader}
 
 module _ (s : RefT (List ℕ)) (r : Reader) (begun : (r .line ≡ s) × (r .at ≡ 0)) where
@@ -31,10 +30,10 @@ module _ (s : RefT (List ℕ)) (r : Reader) (begun : (r .line ≡ s) × (r .at �
     pub as-short : length (now s) ≤ 65536 → length (now (p .line)) ≤ 65536
     as-short l = subst (λ (x : RefT (List ℕ)). length (now x) ≤ 65536) (sym line-is) l
 
-    pub line-holds : (k : ℕ) (t : Read) → k ≡ getD (now (r .line)) (r .at) 0 → t ≡ readAt (now (p .line)) (p .at) (λ bs. whole (scope.frame k bs)) → _≡_ {A = Framed} (record { kind = k; end = t }) (frameOf (now s))
+    pub line-holds : (k : ℕ) (t : Read) → k ≡ getD (now (r .line)) (r .at) 0 → saidRead t ≡ saidAt (now (p .line)) (p .at) (λ bs. whole (scope.frame k bs)) → saidFramed (record { kind = k; end = t }) ≡ frameOf (now s)
     unfolding frameOf
     line-holds k t a b =
         let kind-is : k ≡ getD (now s) 0 0 = a ∙ ap (λ (x : RefT (List ℕ)). getD (now x) (r .at) 0) (begun .0) ∙ ap (λ (i : ℕ). getD (now s) i 0) (begun .1) in
-        let end-is : t ≡ readAt (now s) 1 (λ bs. whole (scope.frame (getD (now s) 0 0) bs))
-        = b ∙ ap (λ (x : RefT (List ℕ)). readAt (now x) (p .at) (λ bs. whole (scope.frame k bs))) line-is ∙ ap (λ (i : ℕ). readAt (now s) i (λ bs. whole (scope.frame k bs))) place-is ∙ ap (λ (j : ℕ). readAt (now s) 1 (λ bs. whole (scope.frame j bs))) kind-is in
-        λ i. record { kind = kind-is i; end = end-is i }
+        let end-is : saidRead t ≡ saidAt (now s) 1 (λ bs. whole (scope.frame (getD (now s) 0 0) bs))
+        = b ∙ ap (λ (x : RefT (List ℕ)). saidAt (now x) (p .at) (λ bs. whole (scope.frame k bs))) line-is ∙ ap (λ (i : ℕ). saidAt (now s) i (λ bs. whole (scope.frame k bs))) place-is ∙ ap (λ (j : ℕ). saidAt (now s) 1 (λ bs. whole (scope.frame j bs))) kind-is in
+        λ i. (kind-is i, end-is i)

@@ -8,6 +8,11 @@ use Rattle.order.specs.Phases.{standsIn, roomIn}
 use Rattle.frames.specs.declared.admitting.Kind.{Kind}
 use Rattle.frames.specs.declared.admitting.Kind.the-variants.{Is, Refused}
 
+-- document 01's number and values for each case: the frame's kind; the refusal's number
+abbrev pub saidKind : Kind → Step ℕ
+saidKind (Is k) = ok k
+saidKind (Refused n) = refuse n
+
 -- a line's frame: unknown kind (4), 5, 6, the rest of 4
 unfoldable pub checked : State → ℕ → List ℕ → Step Frame
 checked s last [] = refuse 4
@@ -18,6 +23,6 @@ checked s last (k ∷ bs) = do
   wholly (frame k bs)
 
 -- the kind k of the frame that passed, or the refusal
-abbrev pub kindOf : Step Frame → ℕ → Kind
-kindOf (ok f) k = Is k
-kindOf (refuse n) k = Refused n
+abbrev pub kindOf : Step Frame → ℕ → Step ℕ
+kindOf (ok f) k = ok k
+kindOf (refuse n) k = refuse n

@@ -7,7 +7,7 @@ use order::stands;
 ghost use mathlib.Core.Path.{_≡_};
 ghost use Prim.Native.Nat.{_<_, _≤_};
 ghost use lib.ListN.{length, getD, drop};
-ghost use Rattle.frames.specs.Checked.{checked, kindOf};
+ghost use Rattle.frames.specs.Checked.{saidKind, checked, kindOf};
 
 pub enum Kind {
     Is(u8),
@@ -18,7 +18,7 @@ pub enum Kind {
 pub fn kind_of(bytes: &[u8], at: usize, s: State, last: usize) -> Kind
     requires { ⌜ at < length (now bytes) ⌝ }
     requires { ⌜ length (now bytes) ≤ 65536 ⌝ }
-    ensures { λ r. ⌜ r ≡ kindOf (checked s last (drop at (now (bytes .entry)))) (getD (now (bytes .entry)) at 0) ⌝ }
+    ensures { λ r. ⌜ saidKind r ≡ kindOf (checked s last (drop at (now (bytes .entry)))) (getD (now (bytes .entry)) at 0) ⌝ }
 {
     let f = read_frame(&bytes[at..]);
     let kind = f.kind;

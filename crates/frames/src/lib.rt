@@ -3,9 +3,9 @@ ghost use mathlib.Core.Path.{_≡_};
 ghost use Prim.Native.Nat.{_+_, _≤_, _<_};
 ghost use lib.ListN.{length, getD};
 ghost use Rattle.scope.specs.Frames.{frame};
-ghost use Rattle.fields.specs.Places.{readAt};
+ghost use Rattle.fields.specs.Places.{saidRead, saidAt};
 ghost use Rattle.frames.specs.Wholes.{whole};
-ghost use Rattle.frames.specs.Lines.{frameOf};
+ghost use Rattle.frames.specs.Lines.{saidFramed, frameOf};
 use crate::shape::frame;
 use cells::at8;
 use fields::Read;
@@ -49,7 +49,7 @@ impl<'a> Reader<'a> {
     fn rest(self, kind: u8) -> Read
         requires { ⌜ self .at ≤ length (now (self .line)) ⌝ }
         requires { ⌜ length (now (self .line)) ≤ 65536 ⌝ }
-        ensures { λ r. ⌜ r ≡ readAt (now (self .entry .line)) (self .entry .at) (λ bs. whole (frame kind bs)) ⌝ }
+        ensures { λ r. ⌜ saidRead r ≡ saidAt (now (self .entry .line)) (self .entry .at) (λ bs. whole (frame kind bs)) ⌝ }
     {
         frame(self.line, self.at, kind)
     }
@@ -65,7 +65,7 @@ pub struct Framed {
 pub fn read_frame(line: &[u8]) -> Framed
     requires { ⌜ 0 < length (now line) ⌝ }
     requires { ⌜ length (now line) ≤ 65536 ⌝ }
-    ensures { λ r. ⌜ r ≡ frameOf (now (line .entry)) ⌝ }
+    ensures { λ r. ⌜ saidFramed r ≡ frameOf (now (line .entry)) ⌝ }
 {
     let r = Reader::over(line);
     let kind = r.kind();

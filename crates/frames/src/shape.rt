@@ -3,7 +3,7 @@ ghost use mathlib.Core.Path.{_≡_};
 ghost use Prim.Native.Nat.{_≤_};
 ghost use lib.ListN.{length};
 ghost use Rattle.scope.specs.Frames.{frame};
-ghost use Rattle.fields.specs.Places.{readAt};
+ghost use Rattle.fields.specs.Places.{saidRead, saidAt, readAt};
 ghost use Rattle.frames.specs.Wholes.{whole};
 use clause::patterns;
 use declarations::constructor_frame;
@@ -31,7 +31,7 @@ fn held(bytes: &[u8], at: usize, kind: u8) -> Read
 pub fn frame(bytes: &[u8], at: usize, kind: u8) -> Read
     requires { ⌜ at ≤ length (now bytes) ⌝ }
     requires { ⌜ length (now bytes) ≤ 65536 ⌝ }
-    ensures { λ r. ⌜ r ≡ readAt (now (bytes .entry)) at (λ bs. whole (frame kind bs)) ⌝ }
+    ensures { λ r. ⌜ saidRead r ≡ saidAt (now (bytes .entry)) at (λ bs. whole (frame kind bs)) ⌝ }
 {
     let r = held(bytes, at, kind);
     let Read::At(to) = r else {

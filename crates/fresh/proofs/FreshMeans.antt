@@ -1,27 +1,25 @@
 -- `isFreshIn` of slices that hold a type table is document 01's `isFresh` of the table and the frame's constructor.
 use mathlib.Core.Path.{_≡_, refl, sym, ap, ap₂, subst, _∙_}
 use mathlib.Core.Bool.{Bool, true, false, not, _&&_, _||_}
-use mathlib.Core.List.{List, [], _∷_, map}
+use mathlib.Core.List.{List, [], map}
 use Prim.Native.Nat.{ℕ, _+_, _-_, _*_, _<_}
 use native.Mathlib.Omega.{arith}
 use lib.ListN.{length, getD, drop}
 use Rattle.scope.specs.Lists.{any, same, twice}
-use Rattle.scope.specs.Types.{Ctor, Ty, dat, Table, typeAt, kind, nameOf, built, ctorsAt, lastDeclared}
+use Rattle.scope.specs.Types.{Ctor, Ty, dat, Table, typeAt, kind, nameOf, lastDeclared}
+use Rattle.scope.specs.Constructors.{built, ctorsAt}
 use Rattle.scope.specs.Frames.{found, constructorFrame}
 use Rattle.scope.specs.Blocks.{isFresh}
 use Rattle.layout.specs.Types.{textAt, Holds}
 use Rattle.layout.specs.Places.{places, reads}
 use Rattle.table.specs.Build.{flagAt, EndsInData}
 use Rattle.fresh.specs.Fresh.{nameThere, labelTexts, labelsNew, isFreshIn}
+use Rattle.scope.proofs.Tests.{any-map}
 use Rattle.layout.proofs.Slices.{any-index}
 use Rattle.table.proofs.FrameBytes.{LabelsRead, without, with, ctor-read}
 use Rattle.table.proofs.Tables.{type-new, last-is}
 use Rattle.table.proofs.TypeMeans.{name-held}
 use Rattle.table.proofs.CtorMeans.{last-type, last-counted}
-
-any-map : {A B : Type 0} (p : B → Bool) (f : A → B) (xs : List A) → any p (map f xs) ≡ any (λ x. p (f x)) xs
-any-map p f [] = refl
-any-map p f (x ∷ xs) = ap (λ b. p (f x) || b) (any-map p f xs)
 
 not-or : (a b : Bool) → (not a && not b) ≡ not (a || b)
 not-or true b = refl

@@ -10,12 +10,11 @@ use lib.Seq.{drop-drop, take-all, sets}
 use Rattle.cells.proofs.Laws.{sets-next}
 use lib.Dec.{eqb, leb, ltb}
 use borrow.Author.Tests.{eq-eqb, ne-eqb, eqb-true, ltb-true, ltb-false, leb-true, le-leb, lt-leb}
-use Rattle.scope.proofs.Tests.{both}
+use Rattle.scope.proofs.Tests.{both, among-is}
 use Rattle.scope.specs.Limits.{maxDigits}
 use Rattle.scope.specs.Lists.{all, among}
 use Rattle.scope.specs.Lines.{ended, cut, intoFirst, lines, isHex, hex, unhex, isLine}
 use Rattle.cells.proofs.Parts.{left}
-use Rattle.letters.proofs.Laws.{among-true}
 use Rattle.hex.specs.Digits.{digits, TakenLine, RefusedLine}
 
 -- a digit is one of 0 to 9 or one of a to f
@@ -24,8 +23,8 @@ unfolding isHex
 hex-cases d h = go (among 48 57 d) refl h
   where
     go : (x : Bool) → among 48 57 d ≡ x → x || among 97 102 d ≡ true → ((48 ≤ d) × (d ≤ 57)) ⊎ ((97 ≤ d) × (d ≤ 102))
-    go true e k = inl (among-true 48 57 d e)
-    go false e k = inr (among-true 97 102 d k)
+    go true e k = inl (among-is 48 57 d e)
+    go false e k = inr (among-is 97 102 d k)
 
 pub hex-digit : (d : ℕ) → d ≤ 57 → hex d ≡ d - 48
 unfolding hex
@@ -99,12 +98,6 @@ getD-unhex (d ∷ e ∷ ds) (suc k) h =
     ∙ ap (λ (i : ℕ). 16 * hex (getD (d ∷ e ∷ ds) i 0) + hex (getD ds (2 * k + 1) 0)) (sym p)
     ∙ ap (λ (i : ℕ). 16 * hex (getD (d ∷ e ∷ ds) (2 * suc k) 0) + hex (getD (d ∷ e ∷ ds) i 0)) (sym q)
 
--- what all pass each passes
-pub all-at : (p : ℕ → Bool) (s : List ℕ) (i : ℕ) → all p s ≡ true → i < length s → p (getD s i 0) ≡ true
-all-at p [] i a h = absurd (omega arith)
-all-at p (x ∷ s) zero a h = both (p x) (all p s) a .0
-all-at p (x ∷ s) (suc i) a h = all-at p s i (both (p x) (all p s) a .1) (omega arith)
-
 -- what an ended line is
 module _ (ds : List ℕ) where
   pub line-hex : isLine (ended ds) ≡ true → (length ds ≤ 1280) × (length ds % 2 ≡ 0) × (all isHex ds ≡ true)
@@ -160,7 +153,7 @@ module _ (file : List ℕ) (from end : ℕ) (inside : from < length file) (ends 
   length-part = ap length part-digits ∙ omega arith
 
   -- no line feed: 3
-  line-cut : (out : List ℕ) → length file ≤ end → RefusedLine file from out out
+  line-cut : (out : List ℕ) → length file ≤ end → RefusedLine file from out 3 out
   unfolding isLine
   line-cut out h =
       record {
@@ -168,6 +161,7 @@ module _ (file : List ℕ) (from end : ℕ) (inside : from < length file) (ends 
         others = [];
         begins = lines-cut (drop from file) (omega (arith, length-drop from file)) (omega (arith, length-drop from file));
         bad = refl;
+        number = refl;
         kept = refl;
       }
 
@@ -180,14 +174,14 @@ module _ (file : List ℕ) (from end : ℕ) (inside : from < length file) (ends 
       ∙ ap (λ (s : List ℕ). ended (take (end - from) (drop from file)) ∷ lines s) (drop-drop (suc (length (digits (drop from file)))) from file ∙ ap (λ (k : ℕ). drop k file) n)
 
   -- another cause of 3
-  line-bad : (out : List ℕ) → end < length file → isLine (ended (take (end - from) (drop from file))) ≡ false → RefusedLine file from out out
-  line-bad out h b = record { line = ended (take (end - from) (drop from file)); others = lines (drop (end + 1) file); begins = line-begins h; bad = b; kept = refl }
+  line-bad : (out : List ℕ) → end < length file → isLine (ended (take (end - from) (drop from file))) ≡ false → RefusedLine file from out 3 out
+  line-bad out h b = record { line = ended (take (end - from) (drop from file)); others = lines (drop (end + 1) file); begins = line-begins h; bad = b; number = refl; kept = refl }
 
   -- any cause of 3
-  pub line-refused : (out : List ℕ) (r : Bool) → r ≡ (ltb end (length file) && isLine (ended (take (end - from) (drop from file)))) → r ≡ false → RefusedLine file from out out
+  pub line-refused : (out : List ℕ) (r : Bool) → r ≡ (ltb end (length file) && isLine (ended (take (end - from) (drop from file)))) → r ≡ false → RefusedLine file from out 3 out
   line-refused out r is h = go (ltb end (length file)) refl (sym is ∙ h)
     where
-      go : (b : Bool) → ltb end (length file) ≡ b → (b && isLine (ended (take (end - from) (drop from file)))) ≡ false → RefusedLine file from out out
+      go : (b : Bool) → ltb end (length file) ≡ b → (b && isLine (ended (take (end - from) (drop from file)))) ≡ false → RefusedLine file from out 3 out
       go true e k = line-bad out (ltb-true end (length file) e) k
       go false e k = line-cut out (ltb-false end (length file) e)
 

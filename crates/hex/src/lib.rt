@@ -7,7 +7,7 @@ ghost use lib.Seq.{sets};
 ghost use lib.Dec.{ltb};
 ghost use Rattle.scope.specs.Lists.{all};
 ghost use Rattle.scope.specs.Lines.{ended, isHex, hex, unhex, isLine};
-ghost use Rattle.hex.specs.Digits.{digits, Lined};
+ghost use Rattle.hex.specs.Digits.{digits, saidLine, Lined};
 use lengths::is_line_length;
 use letters::all_digits;
 
@@ -87,7 +87,7 @@ pub fn read_line(file: &[u8], from: usize, out: &mut [u8], at: usize) -> Line
     requires { ⌜ from < length (now file) ⌝ }
     requires { ⌜ 2 * at ≤ from ⌝ }
     requires { ⌜ length (now file) ≤ 2 * length (now out) ⌝ }
-    ensures { λ r. ⌜ Lined (now (file .entry)) from (now (out .entry)) at r (now (out .exit)) ⌝ }
+    ensures { λ r. ⌜ Lined (now (file .entry)) from (now (out .entry)) at (saidLine r) (now (out .exit)) ⌝ }
 {
     let end = line_end(file, from);
     if !is_line(file, from, end) {

@@ -17,9 +17,8 @@ use Rattle.matrix.specs.Numbers.{matrix}
 use Rattle.matrix.specs.Places.{Places, Patterned, Sizes, Start, Starts}
 use Rattle.walks.specs.Limits.{within}
 use Rattle.useful.specs.Ready.{limited, newRow, Ready}
-use Rattle.judge.specs.Driver.{clauseOf, judgedTo, answered, written}
-use Rattle.judge.specs.declared.Judged.the-variants as judged
-use Rattle.outcomes.specs.declared.Verdict.the-variants.{Done, Over}
+use Rattle.judge.specs.Driver.{clauseWalk, judgedTo, answered, written}
+use Rattle.scope.specs.Blocks.{ok, refuse}
 use Rattle.walks.proofs.Limits.{within-both, past-calls, past-cells, within-cases}
 use Rattle.useful.proofs.Limits.{IsDone, done-is, over-is}
 use Rattle.matrix.proofs.Specialised.{patterned-at, start-places, start-rows}
@@ -53,7 +52,7 @@ module _ (bytes nodes left counts ars starts : List ℕ) (sz : Sizes nodes ars) 
         wide = omega arith;
       }
 
-  pub clause-is : usefulOf bytes counts ars 1 (matrix nodes left 1 (take k e)) (newRow 0 (take (length nodes - p) (drop p nodes))) ≡ clauseOf bytes counts ars nodes starts k
+  pub clause-is : usefulOf bytes counts ars 1 (matrix nodes left 1 (take k e)) (newRow 0 (take (length nodes - p) (drop p nodes))) ≡ clauseWalk bytes counts ars nodes starts k
   clause-is = ap₂ (usefulOf bytes counts ars 1) (ap (matrix nodes left 1) first ∙ start-rows nodes left counts ars (take k starts) begun) rest
 
 -- walks one after another, each over the one before it
@@ -86,15 +85,15 @@ module _ (f : ℕ → Walk (List Bool)) (up : Rising f) where
   written-more k (suc j) e = rw (past-more k (suc j) e) (ap (written f) (suc-add j k) ∙ written-more k j e)
 
   pub over-at : (k n : ℕ) → k < n → (k ≡ 0 → f k .result ≡ []) → within 0 16384 (f k) ≡ true → within 0 16384 (f (suc k)) ≡ false
-      → (judged.Over ≡ answered (f n)) × (written f n ≡ f k .result)
+      → (refuse 10 ≡ answered (f n)) × (written f n ≡ f k .result)
   unfolding answered
   over-at k n lt z w e =
       let same : suc (n - suc k + k) ≡ n = omega arith in (
-        subst (λ (i : ℕ). judged.Over ≡ answered (f i)) same (rw (past-more k (n - suc k) e)),
+        subst (λ (i : ℕ). refuse 10 ≡ answered (f i)) same (rw (past-more k (n - suc k) e)),
         subst (λ (i : ℕ). written f i ≡ f k .result) same (written-more k (n - suc k) e ∙ written-whole f k z w),
       )
 
-  pub done-at : (n : ℕ) → within 0 16384 (f n) ≡ true → judged.Done (f n .calls) ≡ answered (f n)
+  pub done-at : (n : ℕ) → within 0 16384 (f n) ≡ true → ok (f n .calls) ≡ answered (f n)
   unfolding answered
   done-at n w = rw w
 
@@ -111,7 +110,7 @@ module _ (bytes cs ars nodes starts : List ℕ) where
   judged-length : (k : ℕ) → length (judgedTo bytes cs ars nodes starts k .result) ≡ k
   unfolding judgedTo
   judged-length zero = refl
-  judged-length (suc k) = length-append (judgedTo bytes cs ars nodes starts k .result) (clauseOf bytes cs ars nodes starts k .result ∷ []) ∙ omega (arith, judged-length k)
+  judged-length (suc k) = length-append (judgedTo bytes cs ars nodes starts k .result) (clauseWalk bytes cs ars nodes starts k .result ∷ []) ∙ omega (arith, judged-length k)
 
   -- where the driver stands before clause k
   pub record Before (k calls : ℕ) (v₀ v : List ℕ) : Type 0 where
@@ -131,7 +130,7 @@ module _ (bytes cs ars nodes starts : List ℕ) where
     place : k ≡ 0 + length (map bit (judgedTo bytes cs ars nodes starts k .result))
     place = sym (zero-add (length (map bit (judgedTo bytes cs ars nodes starts k .result))) ∙ length-map (judgedTo bytes cs ars nodes starts k .result) bit ∙ judged-length k)
 
-    next : (y : Bool) (d x : ℕ) (v′ : List ℕ) → IsDone calls 16384 (clauseOf bytes cs ars nodes starts k) y d → x ≡ bit y → v′ ≡ set v k x → Before (suc k) d v₀ v′
+    next : (y : Bool) (d x : ℕ) (v′ : List ℕ) → IsDone calls 16384 (clauseWalk bytes cs ars nodes starts k) y d → x ≡ bit y → v′ ≡ set v k x → Before (suc k) d v₀ v′
     unfolding judgedTo
     next y d x v′ i xe ve = record {
       called = omega (arith, i .called, b .called);
@@ -139,22 +138,22 @@ module _ (bytes cs ars nodes starts : List ℕ) where
       fits = omega (arith, i .fits, b .fits);
       verdicts =
           ve ∙ ap₂ (λ (l : List ℕ) (z : ℕ). set l k z) (b .verdicts) (xe ∙ ap bit (sym (i .answer)))
-          ∙ ap (λ (j : ℕ). set (sets v₀ 0 (map bit (judgedTo bytes cs ars nodes starts k .result))) j (bit (clauseOf bytes cs ars nodes starts k .result))) place
-          ∙ sets-sets (map bit (judgedTo bytes cs ars nodes starts k .result)) (bit (clauseOf bytes cs ars nodes starts k .result) ∷ []) v₀ 0
-          ∙ ap (sets v₀ 0) (sym (map-append bit (judgedTo bytes cs ars nodes starts k .result) (clauseOf bytes cs ars nodes starts k .result ∷ [])));
+          ∙ ap (λ (j : ℕ). set (sets v₀ 0 (map bit (judgedTo bytes cs ars nodes starts k .result))) j (bit (clauseWalk bytes cs ars nodes starts k .result))) place
+          ∙ sets-sets (map bit (judgedTo bytes cs ars nodes starts k .result)) (bit (clauseWalk bytes cs ars nodes starts k .result) ∷ []) v₀ 0
+          ∙ ap (sets v₀ 0) (sym (map-append bit (judgedTo bytes cs ars nodes starts k .result) (clauseWalk bytes cs ars nodes starts k .result ∷ [])));
     }
 
     -- one clause more
-    pub before-next : (y : Bool) (d x : ℕ) (v′ : List ℕ) → Done y d ≡ limited calls 16384 (clauseOf bytes cs ars nodes starts k) → x ≡ bit y → v′ ≡ set v k x → Before (k + 1) d v₀ v′
-    before-next y d x v′ e xe ve = subst (λ (j : ℕ). Before j d v₀ v′) (sym (add-one k)) (next y d x v′ (done-is calls 16384 (clauseOf bytes cs ars nodes starts k) y d e) xe ve)
+    pub before-next : (y : Bool) (d x : ℕ) (v′ : List ℕ) → ok (y, d) ≡ limited calls 16384 (clauseWalk bytes cs ars nodes starts k) → x ≡ bit y → v′ ≡ set v k x → Before (k + 1) d v₀ v′
+    before-next y d x v′ e xe ve = subst (λ (j : ℕ). Before j d v₀ v′) (sym (add-one k)) (next y d x v′ (done-is calls 16384 (clauseWalk bytes cs ars nodes starts k) y d e) xe ve)
 
     -- a clause that is too much
-    pub before-over : Over ≡ limited calls 16384 (clauseOf bytes cs ars nodes starts k) → within 0 16384 (judgedTo bytes cs ars nodes starts (suc k)) ≡ false
+    pub before-over : refuse 10 ≡ limited calls 16384 (clauseWalk bytes cs ars nodes starts k) → within 0 16384 (judgedTo bytes cs ars nodes starts (suc k)) ≡ false
     unfolding judgedTo
     before-over e =
         let o = judgedTo bytes cs ars nodes starts (suc k) in
-        let out = over-is calls 16384 (clauseOf bytes cs ars nodes starts k) e in
-        within-cases calls 16384 (clauseOf bytes cs ars nodes starts k)
-        (λ p q. clash (cc (within-both calls 16384 (clauseOf bytes cs ars nodes starts k) p q)))
+        let out = over-is calls 16384 (clauseWalk bytes cs ars nodes starts k) e in
+        within-cases calls 16384 (clauseWalk bytes cs ars nodes starts k)
+        (λ p q. clash (cc (within-both calls 16384 (clauseWalk bytes cs ars nodes starts k) p q)))
         (λ p. past-calls 0 16384 o (omega (arith, b .called)))
         (λ p. past-cells 0 16384 o (omega arith))

@@ -9,14 +9,15 @@ use lib.Seq.{sets, take-suc, take-length, length-take-le, getD-take}
 use Rattle.scope.specs.Limits.{maxCells}
 use Rattle.scope.specs.Lists.{bit}
 use Rattle.scope.specs.Types.{Ref, Table}
-use Rattle.scope.specs.Patterns.{Row, Matrix}
+use Rattle.scope.specs.Simplify.{Row, Matrix}
 use Rattle.scope.specs.Walks.{Walk, plain, turned, joined, isUseful}
-use Rattle.scope.specs.Report.{judged}
+use Rattle.scope.specs.Driver.{judged}
 use Rattle.scope.proofs.Tests.{clash}
+use Rattle.scope.specs.Blocks.{ok, refuse}
 use Rattle.judge.specs.declared.Judged.{Judged}
 use Rattle.judge.specs.declared.Judged.the-variants.{Done, Over}
 use Rattle.walks.specs.Limits.{within}
-use Rattle.judge.specs.Driver.{clauseOf, judgedTo, answered, written, Judges, JudgesAll}
+use Rattle.judge.specs.Driver.{saidJudged, clauseWalk, judgedTo, answered, written, Judges, JudgesAll}
 use Rattle.walks.specs.Bridge.{Says, SayRows, Holding}
 use Rattle.judge.proofs.Clauses.{written-whole}
 use Rattle.walks.proofs.BridgeUseful.{same-useful}
@@ -61,7 +62,7 @@ module _ (bytes kinds nodes left counts ars starts : List ℕ) (table : Table) (
       each : (i : ℕ) → i < k → Says bytes table (t ∷ []) (drop (getD (take k starts) i 0) nodes) (getD (take k m) i [])
       each i li = rw (getD-take k starts i 0 li, getD-take k m i [] li) (clause-says bytes kinds nodes left counts ars starts table t m holds low i (omega arith))
 
-  clause-is : (k : ℕ) → k < length m → clauseOf bytes counts ars nodes starts k ≡ isUseful table 1 (take k m) (getD m k [])
+  clause-is : (k : ℕ) → k < length m → clauseWalk bytes counts ars nodes starts k ≡ isUseful table 1 (take k m) (getD m k [])
   clause-is k l = same-useful bytes kinds counts ars table (holds .shape) low (t ∷ []) (map (λ p. drop p nodes) (take k starts)) (take k m) (drop (getD starts k 0) nodes) (getD m k []) (before-says k l) (clause-says bytes kinds nodes left counts ars starts table t m holds low k l)
 
   pub judged-is : (k : ℕ) → k ≤ length m → judgedTo bytes counts ars nodes starts k ≡ judged table [] (take k m)
@@ -77,7 +78,7 @@ module _ (bytes kinds nodes left counts ars starts : List ℕ) (table : Table) (
   written-is (suc k) l = ap₂ (λ (w : Walk (List Bool)) (v : List Bool). cond (within 0 maxCells w) (w .result) v) (judged-is (suc k) l) (written-is k (omega arith))
 
   -- what `judge` answers is what the driver of `scope` finds under the limits
-  pub judges : (v₀ v : List ℕ) (r : Judged) → r ≡ answered (judgedTo bytes counts ars nodes starts (length starts)) → v ≡ sets v₀ 0 (map bit (written (judgedTo bytes counts ars nodes starts) (length starts))) → Judges table m v₀ v r
+  pub judges : (v₀ v : List ℕ) (r : Judged) → saidJudged r ≡ answered (judgedTo bytes counts ars nodes starts (length starts)) → v ≡ sets v₀ 0 (map bit (written (judgedTo bytes counts ars nodes starts) (length starts))) → Judges table m v₀ v r
   judges v₀ v r e f = record {
     answer = e ∙ ap (λ (k : ℕ). answered (judgedTo bytes counts ars nodes starts k)) (holds .rows .many) ∙ ap answered (judged-is (length m) (omega arith) ∙ ap (judged table []) (take-length m));
     verdicts = f ∙ ap (λ (k : ℕ). sets v₀ 0 (map bit (written (judgedTo bytes counts ars nodes starts) k))) (holds .rows .many) ∙ ap (λ (l : List Bool). sets v₀ 0 (map bit l)) (written-is (length m) (omega arith));
@@ -97,7 +98,7 @@ module _ (table : Table) (m : Matrix) (v₀ v : List ℕ) where
       whole : judged table [] (take (length m) m) ≡ judged table [] m
       whole = ap (judged table []) (take-length m)
 
-      go : (b : Bool) → within 0 maxCells (judged table [] m) ≡ b → Done calls ≡ cond b (Done (judged table [] m .calls)) Over → AllDone table m v₀ v calls
+      go : (b : Bool) → within 0 maxCells (judged table [] m) ≡ b → ok calls ≡ cond b (ok (judged table [] m .calls)) (refuse 10) → AllDone table m v₀ v calls
       go false e q = clash (cc)
       go true e q = record {
         fits = e;
@@ -112,10 +113,10 @@ module _ (table : Table) (m : Matrix) (v₀ v : List ℕ) where
   unfolding answered
   judged-over j = go (within 0 maxCells (judged table [] m)) (j .answer)
     where
-      go : (b : Bool) → Over ≡ cond b (Done (judged table [] m .calls)) Over → b ≡ false
+      go : (b : Bool) → refuse 10 ≡ cond b (ok (judged table [] m .calls)) (refuse 10) → b ≡ false
       go false q = refl
       go true q = clash (cc)
 
-pub judges-all : (bytes nodes left counts ars starts : List ℕ) → length ars < 32768 → (v₀ v : List ℕ) (r : Judged) → r ≡ answered (judgedTo bytes counts ars nodes starts (length starts)) → v ≡ sets v₀ 0 (map bit (written (judgedTo bytes counts ars nodes starts) (length starts)))
+pub judges-all : (bytes nodes left counts ars starts : List ℕ) → length ars < 32768 → (v₀ v : List ℕ) (r : Judged) → saidJudged r ≡ answered (judgedTo bytes counts ars nodes starts (length starts)) → v ≡ sets v₀ 0 (map bit (written (judgedTo bytes counts ars nodes starts) (length starts)))
     → JudgesAll bytes nodes left counts ars starts v₀ v r
 judges-all bytes nodes left counts ars starts low v₀ v r e f kinds table t m holds = judges bytes kinds nodes left counts ars starts table t m holds low v₀ v r e f

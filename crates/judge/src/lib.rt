@@ -11,8 +11,9 @@ ghost use lib.ListN.{length};
 ghost use lib.Seq.{sets};
 ghost use Rattle.scope.specs.Lists.{bit};
 ghost use Rattle.matrix.specs.Places.{Sizes, Starts};
+ghost use Rattle.outcomes.specs.Past.{saidVerdict};
 ghost use Rattle.useful.specs.Ready.{limited};
-ghost use Rattle.judge.specs.Driver.{clauseOf, judgedTo, answered, written, JudgesAll};
+ghost use Rattle.judge.specs.Driver.{saidJudged, clauseWalk, judgedTo, answered, written, JudgesAll};
 
 pub enum Judged {
     Done { calls: usize },
@@ -34,7 +35,7 @@ fn clause(
     requires { ⌜ Sizes (now nodes) (now arities) ⌝ }
     requires { ⌜ Starts (now nodes) (now left) (now counts) (now arities) (now starts) ⌝ }
     requires { ⌜ (k < length (now starts)) × (k ≤ 64) × (16384 ≤ length (now s)) ⌝ }
-    ensures { λ r. ⌜ r ≡ limited calls 16384 (clauseOf (now (bytes .entry)) (now (counts .entry)) (now (arities .entry)) (now (nodes .entry)) (now (starts .entry)) k) ⌝ }
+    ensures { λ r. ⌜ saidVerdict r ≡ limited calls 16384 (clauseWalk (now (bytes .entry)) (now (counts .entry)) (now (arities .entry)) (now (nodes .entry)) (now (starts .entry)) k) ⌝ }
 {
     copy(starts, k, s);
     let p = wide16(starts[k]);
@@ -68,7 +69,7 @@ pub fn judge(
     requires { ⌜ Sizes (now nodes) (now arities) ⌝ }
     requires { ⌜ Starts (now nodes) (now left) (now counts) (now arities) (now starts) ⌝ }
     requires { ⌜ (length (now starts) ≤ 64) × (16384 ≤ length (now s)) × (length (now starts) ≤ length (now verdicts)) ⌝ }
-    ensures { λ r. ⌜ r ≡ answered (judgedTo (now (bytes .entry)) (now (counts .entry)) (now (arities .entry)) (now (nodes .entry)) (now (starts .entry)) (length (now (starts .entry)))) ⌝ }
+    ensures { λ r. ⌜ saidJudged r ≡ answered (judgedTo (now (bytes .entry)) (now (counts .entry)) (now (arities .entry)) (now (nodes .entry)) (now (starts .entry)) (length (now (starts .entry)))) ⌝ }
     ensures { λ _. ⌜ now (verdicts .exit) ≡ sets (now (verdicts .entry)) 0 (map bit (written (judgedTo (now (bytes .entry)) (now (counts .entry)) (now (arities .entry)) (now (nodes .entry)) (now (starts .entry))) (length (now (starts .entry))))) ⌝ }
     ensures { λ r. ⌜ JudgesAll (now (bytes .entry)) (now (nodes .entry)) (now (left .entry)) (now (counts .entry)) (now (arities .entry)) (now (starts .entry)) (now (verdicts .entry)) (now (verdicts .exit)) r ⌝ }
 {

@@ -10,10 +10,10 @@ use lib.Dec.{ltb, leb}
 use Rattle.scope.specs.Limits.{maxCalls, maxCells, maxMissing}
 use Rattle.scope.specs.Lists.{bit}
 use Rattle.scope.specs.Types.{Table}
-use Rattle.scope.specs.Patterns.{Matrix}
-use Rattle.scope.specs.Blocks.{Block, nodesIn}
+use Rattle.scope.specs.Simplify.{Matrix}
+use Rattle.scope.specs.Blocks.{Block, nodesIn, ok, refuse}
 use Rattle.scope.specs.Walks.{collectMissingPatterns}
-use Rattle.scope.specs.Report.{judged, Findings, findings, tooMuch}
+use Rattle.scope.specs.Driver.{judged, Findings, findings, tooMuch}
 use Rattle.meaning.proofs.Promised.{judged-length}
 use Rattle.walks.specs.Limits.{within}
 use Rattle.judge.specs.Driver.{Judges}
@@ -24,7 +24,6 @@ use Rattle.verdicts.specs.Verdicts.{said}
 use Rattle.walks.proofs.Limits.{within-not}
 use Rattle.judge.proofs.Driver.{judged-done, judged-over}
 use Rattle.missing.proofs.Driver.{found-not, found-done, found-over}
-use Rattle.judging.specs.declared.Walks.the-variants.{Done, Over}
 use Rattle.judging.specs.Walks.{Walked, over, done}
 
 -- the tests of refusal 10, walk by walk
@@ -83,13 +82,13 @@ module _ (bytes : List ℕ) (b : Block) (v₀ v : List ℕ) where
   unfolding findings
   second-test x h = from-not (within 0 maxCells (findings b .missing) && leb (nodesIn (findings b .missing .result)) maxMissing) (secondTest (findings b)) x (found-not (findings b .missing)) h
 
-  pub first-over : (out : List ℕ) → Judges (b .table) (b .rows) v₀ v judgedAs.Over → Walked bytes b v out Over
+  pub first-over : (out : List ℕ) → Judges (b .table) (b .rows) v₀ v judgedAs.Over → Walked bytes b v out (refuse 10)
   first-over out j = over (or-left (firstTest (findings b)) (secondTest (findings b)) (tooMuch (findings b)) (too-much (findings b)) (first-test false (judged-over (b .table) (b .rows) v₀ v j)))
 
-  pub second-over : (out : List ℕ) → Finds bytes (b .table) (b .rows) out seek.Over → Walked bytes b v out Over
+  pub second-over : (out : List ℕ) → Finds bytes (b .table) (b .rows) out seek.Over → Walked bytes b v out (refuse 10)
   second-over out f = over (or-right (firstTest (findings b)) (secondTest (findings b)) (tooMuch (findings b)) (too-much (findings b)) (second-test false (found-over bytes (b .table) (b .rows) out f)))
 
-  pub both-done : (out : List ℕ) (first written gaps second : ℕ) → length (b .rows) ≤ length v₀ → Judges (b .table) (b .rows) v₀ v (judgedAs.Done first) → Finds bytes (b .table) (b .rows) out (seek.Done written gaps second) → Walked bytes b v out (Done first written gaps second)
+  pub both-done : (out : List ℕ) (first written gaps second : ℕ) → length (b .rows) ≤ length v₀ → Judges (b .table) (b .rows) v₀ v (judgedAs.Done first) → Finds bytes (b .table) (b .rows) out (seek.Done written gaps second) → Walked bytes b v out (ok (first, (written, (gaps, second))))
   unfolding findings
   both-done out first written gaps second l j f =
       let a = judged-done (b .table) (b .rows) v₀ v first j in

@@ -2,9 +2,9 @@
 use mathlib.Core.List.{List, [], _∷_}
 use Prim.Native.Nat.{ℕ, _≤_, _<_}
 use lib.ListN.{length}
-use Rattle.scope.specs.Patterns.{TypedRows}
+use Rattle.laws.specs.Typed.{TypedRows}
 use Rattle.scope.specs.Blocks.{Block}
-use Rattle.scope.specs.Report.{findings}
+use Rattle.scope.specs.Driver.{findings}
 use Rattle.walks.specs.Bridge.{Holding}
 use Rattle.text.specs.Rows.{slices, Tabled}
 

@@ -1,22 +1,22 @@
 // A block judged: both walks over its slices, then its report or refusal 10 or 11.
-use answers::Answer;
 use cells::clear;
 use fitting::say;
 use judge::Judged;
 use judge::judge;
 use missing::missing;
 use outcomes::Seek;
+use scope::Answer;
 ghost use mathlib.Core.Path.{_≡_};
 ghost use Prim.Native.Nat.{ℕ, _≤_};
 ghost use mathlib.Core.List.{List};
 ghost use lib.ListN.{length, replicate};
 ghost use Rattle.scope.specs.Blocks.{Block, parsed};
-ghost use Rattle.answers.specs.Answer.{judgedIn};
+ghost use Rattle.scope.specs.Answer.{outcomeOf};
 ghost use Rattle.matrix.specs.Places.{Sizes, Starts};
 ghost use Rattle.walks.specs.Bridge.{Holding};
 ghost use Rattle.fitting.specs.Given.{Given};
 ghost use Rattle.judging.specs.Blocks.{lent, Holds, Known};
-ghost use Rattle.judging.specs.Walks.{Walked};
+ghost use Rattle.judging.specs.Walks.{saidWalks, Walked};
 
 pub enum Walks {
     Done {
@@ -43,7 +43,7 @@ fn walk(
     requires { ⌜ Sizes (now nodes) (now arities) ⌝ }
     requires { ⌜ Starts (now nodes) (now left) (now counts) (now arities) (now rows) ⌝ }
     requires { ⌜ (length (now rows) ≤ 64) × (16384 ≤ length (now scratch)) × (64 ≤ length (now verdicts)) × (4096 ≤ length (now out)) ⌝ }
-    ensures { λ r. ⌜ ((kinds : List ℕ) (b : Block) → Holding (now (bytes .entry)) kinds (now (nodes .entry)) (now (left .entry)) (now (counts .entry)) (now (arities .entry)) (now (rows .entry)) (b .table) (b .subject) (b .rows) → Walked (now (bytes .entry)) b (now (verdicts .exit)) (now (out .exit)) r) ⌝ }
+    ensures { λ r. ⌜ ((kinds : List ℕ) (b : Block) → Holding (now (bytes .entry)) kinds (now (nodes .entry)) (now (left .entry)) (now (counts .entry)) (now (arities .entry)) (now (rows .entry)) (b .table) (b .subject) (b .rows) → Walked (now (bytes .entry)) b (now (verdicts .exit)) (now (out .exit)) (saidWalks r)) ⌝ }
     ensures { λ _. ⌜ (length (now (verdicts .exit)) ≡ length (now (verdicts .entry))) × (length (now (out .exit)) ≡ length (now (out .entry))) ⌝ }
     ensures { λ _. ⌜ now (scratch .exit) ≡ replicate (length (now (scratch .entry))) 0 ⌝ }
 {
@@ -85,7 +85,7 @@ pub fn judged(
 ) -> Answer
     requires { ⌜ Known (lent (now bytes) (now kinds) (now counts) (now arities) (now starts) (now names) (now labels) (now nodes) (now left) (now rows)) ⌝ }
     requires { ⌜ 16384 ≤ length (now scratch) ⌝ }
-    ensures { λ r. ⌜ ((b : Block) → Holds (lent (now (bytes .entry)) (now (kinds .entry)) (now (counts .entry)) (now (arities .entry)) (now (starts .entry)) (now (names .entry)) (now (labels .entry)) (now (nodes .entry)) (now (left .entry)) (now (rows .entry))) b → Given (judgedIn (length (now (report .entry))) (parsed b)) r (now (report .entry)) (now (report .exit))) ⌝ }
+    ensures { λ r. ⌜ ((b : Block) → Holds (lent (now (bytes .entry)) (now (kinds .entry)) (now (counts .entry)) (now (arities .entry)) (now (starts .entry)) (now (names .entry)) (now (labels .entry)) (now (nodes .entry)) (now (left .entry)) (now (rows .entry))) b → Given (outcomeOf (length (now (report .entry))) (parsed b)) r (now (report .entry)) (now (report .exit))) ⌝ }
     ensures { λ _. ⌜ now (scratch .exit) ≡ replicate (length (now (scratch .entry))) 0 ⌝ }
 {
     // What the walks and the report both read, as slices once.

@@ -6,8 +6,9 @@ use mathlib.Core.List.{List, [], _∷_, _++_, map}
 use Prim.Native.Nat.{ℕ, zero, suc, _+_, _-_, _/_, _%_, _≤_, _<_}
 use lib.ListN.{length, getD, take, drop}
 use lib.Dec.{ltb, eqb}
-use Rattle.scope.specs.Types.{Table, arity}
-use Rattle.scope.specs.Patterns.{Literal, int, byteArray, Node, wild, lit, con, Row, Matrix}
+use Rattle.scope.specs.Types.{Table}
+use Rattle.scope.specs.Constructors.{arity}
+use Rattle.scope.specs.Simplify.{Literal, int, byteArray, Node, wild, lit, con, Row, Matrix}
 use Rattle.layout.specs.Types.{textAt}
 
 -- the literal that a pattern's bytes say: its kind, its length, its text

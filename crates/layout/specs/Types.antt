@@ -4,7 +4,8 @@ use mathlib.Core.List.{List, [], _∷_, _++_, map}
 use Prim.Native.Nat.{ℕ, suc, _+_, _*_, _≤_, _<_}
 use lib.ListN.{length, getD, take, drop}
 use Rattle.scope.specs.Lists.{Text, flatten}
-use Rattle.scope.specs.Types.{Ref, Table, typeAt, kind, fieldsOf, ctorsAt, ctors, ctorAt, fieldsAt, arity}
+use Rattle.scope.specs.Types.{Ref, Table, typeAt, kind, fieldsOf}
+use Rattle.scope.specs.Constructors.{ctorsAt, ctors, ctorAt, fieldsAt, arity}
 use Rattle.scope.specs.Blocks.{ctorCount}
 
 -- the name, label or text whose length stands at a place among the bytes

@@ -2,12 +2,11 @@
 use mathlib.Core.Path.{_≡_, refl, sym, ap, _∙_}
 use mathlib.Core.List.{[], _∷_}
 use mathlib.Core.Bool.{Bool, true, false, _&&_, _||_}
-use Prim.Native.Nat.{ℕ, _+_, _-_, _≤_, _<_}
+use Prim.Native.Nat.{ℕ, _+_, _-_, _<_}
 use native.Mathlib.Omega.{arith}
 use lib.ListN.{length, getD, take, drop}
-use lib.Dec.{eqb, leb, eqb·suc-suc}
-use borrow.Author.Tests.{eq-eqb, ne-eqb, leb-true}
-use Rattle.scope.proofs.Tests.{both}
+use lib.Dec.{eqb, eqb·suc-suc}
+use borrow.Author.Tests.{eq-eqb, ne-eqb}
 use Rattle.cells.proofs.Parts.{left, part}
 use Rattle.scope.specs.Lists.{Text, all, among}
 use Rattle.scope.specs.Frames.{isDigit, isPositive, isDecimal}
@@ -27,10 +26,6 @@ and-right a b c h e = rw (h, e)
 or-false : (z : Bool) → z || false ≡ z
 or-false true = refl
 or-false false = refl
-
--- a test on lo to hi that is passed
-pub among-true : (lo hi b : ℕ) → among lo hi b ≡ true → (lo ≤ b) × (b ≤ hi)
-among-true lo hi b h = let p = both (leb lo b) (leb b hi) h in (leb-true lo b (p .0), leb-true b hi (p .1))
 
 -- every element from a place on passes: this one does not
 pub all-stops : (p : ℕ → Bool) (t : Text) (i : ℕ) → i < length t → p (getD t i 0) ≡ false → all p (drop i t) ≡ false

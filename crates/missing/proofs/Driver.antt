@@ -11,9 +11,9 @@ use lib.Dec.{leb, ltb}
 use Rattle.scope.specs.Limits.{maxCalls, maxCells, maxMissing}
 use Rattle.scope.specs.Lists.{flatten}
 use Rattle.scope.specs.Types.{Table}
-use Rattle.scope.specs.Patterns.{Row, Matrix}
+use Rattle.scope.specs.Simplify.{Row, Matrix}
 use Rattle.scope.specs.Walks.{Walk, turned, collectMissingPatterns}
-use Rattle.scope.specs.Blocks.{nodesIn}
+use Rattle.scope.specs.Blocks.{Step, ok, refuse, nodesIn}
 use Rattle.scope.proofs.Tests.{clash}
 use Rattle.layout.specs.Nodes.{nodeOf, rowOf}
 use Rattle.matrix.specs.Numbers.{Rows, matrix}
@@ -24,6 +24,7 @@ use Rattle.paths.specs.Path.{under, pathOf}
 use Rattle.paths.specs.Spread.{nodesOf}
 use Rattle.collect.specs.Ready.{Opened, Trail, Sought, sought}
 use Rattle.missing.specs.Missing.{missingRows, outAfter, foundOf, Finds, FindsAll}
+use Rattle.outcomes.specs.Past.{saidSeek}
 use Rattle.outcomes.specs.declared.Seek.{Seek}
 use Rattle.outcomes.specs.declared.Seek.the-variants.{Done, Over}
 use Rattle.matrix.proofs.Fronts.{front-length}
@@ -55,15 +56,15 @@ module _ (bytes : List ℕ) where
   answer-read w =
       let n : 0 + nodesOf (w .result) ≡ nodesIn (map (rowOf bytes) (w .result)) = omega (arith, nodes-read (w .result)) in
       let k : 0 + length (w .result) ≡ length (map (rowOf bytes) (w .result)) = omega (arith, length-map (w .result) (rowOf bytes)) in
-      ap₂ (λ (x y : ℕ). cond (within 0 16384 w && leb x 4096) (Done x y (0 + w .calls)) Over) n k
-      ∙ ap (λ (c : ℕ). cond (within 0 16384 w && leb (nodesIn (map (rowOf bytes) (w .result))) 4096) (Done (nodesIn (map (rowOf bytes) (w .result))) (length (map (rowOf bytes) (w .result))) c) Over) (zero-add (w .calls))
+      ap₂ (λ (x y : ℕ). cond (within 0 16384 w && leb x 4096) (ok (x, (y, 0 + w .calls))) (refuse 10)) n k
+      ∙ ap (λ (c : ℕ). cond (within 0 16384 w && leb (nodesIn (map (rowOf bytes) (w .result))) 4096) (ok (nodesIn (map (rowOf bytes) (w .result)), (length (map (rowOf bytes) (w .result)), c))) (refuse 10)) (zero-add (w .calls))
 
 -- the front of a list that a run of stores has filled
 front-filled : (d vs : List ℕ) → length vs ≤ length d → take (length vs) (sets d 0 vs) ≡ vs
 front-filled d vs l = ap (take (length vs)) (sets-eq vs d 0 (omega arith)) ∙ take-at vs (drop (0 + length vs) d) (length vs) refl
 
 finds-all : (bytes nodes left counts ars starts : List ℕ) → length ars < 32768 → (out oe : List ℕ) (r : Seek) → 4096 ≤ length out
-    → r ≡ sought 0 16384 0 0 (missingRows bytes counts ars nodes starts) → oe ≡ outAfter out (missingRows bytes counts ars nodes starts .result) r
+    → saidSeek r ≡ sought 0 16384 0 0 (missingRows bytes counts ars nodes starts) → oe ≡ outAfter out (missingRows bytes counts ars nodes starts .result) r
     → FindsAll bytes nodes left counts ars starts oe r
 unfolding outAfter
 finds-all bytes nodes left counts ars starts low out oe r big e f kinds table t m holds = record { answer = e ∙ answer-read bytes w ∙ ap foundOf same; rows = λ x k c q. text x k c q }
@@ -76,7 +77,7 @@ finds-all bytes nodes left counts ars starts low out oe r big e f kinds table t 
 
     text : (x k c : ℕ) → r ≡ Done x k c → rowOf bytes (take x oe) ≡ flatten (collectMissingPatterns table 1 m .result)
     text x k c q =
-        let i = done-is 0 16384 0 0 w x k c (sym q ∙ e) in
+        let i = done-is 0 16384 0 0 w x k c (sym (ap saidSeek q) ∙ e) in
         let n : x ≡ length (flatten (w .result)) = i .nodes ∙ zero-add (nodesOf (w .result)) ∙ sym (flatten-length (w .result)) in
         let o : oe ≡ sets out 0 (flatten (w .result)) = f ∙ ap (outAfter out (w .result)) q in
         ap (rowOf bytes) (ap₂ take n o ∙ front-filled out (flatten (w .result)) (omega (arith, i .low)))
@@ -91,7 +92,7 @@ out-long out m Over = length-replicate (length out) 0
 -- what the contract says of the answer, the buffer and the scratch
 abbrev pub Leaves : List ℕ → List ℕ → List ℕ → List ℕ → List ℕ → List ℕ → List ℕ → List ℕ → List ℕ → List ℕ → Seek → Type 0
 Leaves bytes nodes left counts ars starts s s′ out out′ r =
-    (r ≡ sought 0 16384 0 0 (missingRows bytes counts ars nodes starts)) × ((out′ ≡ outAfter out (missingRows bytes counts ars nodes starts .result) r) × ((s′ ≡ replicate (length s) 0) × FindsAll bytes nodes left counts ars starts out′ r))
+    (saidSeek r ≡ sought 0 16384 0 0 (missingRows bytes counts ars nodes starts)) × ((out′ ≡ outAfter out (missingRows bytes counts ars nodes starts .result) r) × ((s′ ≡ replicate (length s) 0) × FindsAll bytes nodes left counts ars starts out′ r))
 
 -- the clauses' rows, copied to the front of the scratch
 module _ (bytes nodes left counts ars starts : List ℕ) (sz : Sizes nodes ars) (st : Starts nodes left counts ars starts) (s e : List ℕ) (few : length starts ≤ 64) (big : 16384 ≤ length s) (ee : e ≡ take (length starts) starts ++ drop (length starts) s) where
@@ -118,7 +119,7 @@ module _ (bytes nodes left counts ars starts : List ℕ) (sz : Sizes nodes ars) 
     unfolding under pathOf
     whole = ap (missingOf bytes counts ars 1) (ap (matrix nodes left 1) front ∙ start-rows nodes left counts ars starts (st .each))
 
-    missing-is : r ≡ sought 0 16384 0 0 (missingRows bytes counts ars nodes starts)
+    missing-is : saidSeek r ≡ sought 0 16384 0 0 (missingRows bytes counts ars nodes starts)
     missing-is = h .is ∙ ap (sought 0 16384 0 0) whole
 
     -- the scratch cleared, and all that the contract says for the buffer afterwards
@@ -153,8 +154,10 @@ module _ (bytes : List ℕ) (table : Table) (m : Matrix) (outEnd : List ℕ) whe
       w : Walk Matrix
       w = collectMissingPatterns table 1 m
 
-      go : (b : Bool) → (within 0 maxCells w && leb (nodesIn (w .result)) maxMissing) ≡ b → Done n k c ≡ cond b (Done (nodesIn (w .result)) (length (w .result)) (w .calls)) Over → AllFound w n k c
-      go true e q = record { fits = e; nodes = cc; count = cc; called = cc }
+      go : (b : Bool) → (within 0 maxCells w && leb (nodesIn (w .result)) maxMissing) ≡ b → _≡_ {A = Step (ℕ × (ℕ × ℕ))} (ok (n, (k, c))) (cond b (ok (nodesIn (w .result), (length (w .result), w .calls))) (refuse 10)) → AllFound w n k c
+      go true e q =
+          let i : _≡_ {A = ℕ × (ℕ × ℕ)} (n, (k, c)) (nodesIn (w .result), (length (w .result), w .calls)) = cc in
+          record { fits = e; nodes = ap (λ (x : ℕ × (ℕ × ℕ)). x .0) i; count = ap (λ (x : ℕ × (ℕ × ℕ)). x .1 .0) i; called = ap (λ (x : ℕ × (ℕ × ℕ)). x .1 .1) i }
       go false e q = clash (cc)
 
   pub found-over : Finds bytes table m outEnd Over → (within 0 maxCells (collectMissingPatterns table 1 m) && leb (nodesIn (collectMissingPatterns table 1 m .result)) maxMissing) ≡ false
@@ -164,6 +167,6 @@ module _ (bytes : List ℕ) (table : Table) (m : Matrix) (outEnd : List ℕ) whe
       w : Walk Matrix
       w = collectMissingPatterns table 1 m
 
-      go : (b : Bool) → Over ≡ cond b (Done (nodesIn (w .result)) (length (w .result)) (w .calls)) Over → b ≡ false
+      go : (b : Bool) → _≡_ {A = Step (ℕ × (ℕ × ℕ))} (refuse 10) (cond b (ok (nodesIn (w .result), (length (w .result), w .calls))) (refuse 10)) → b ≡ false
       go true q = clash (cc)
       go false q = refl

@@ -9,10 +9,11 @@ use lib.Dec.{leb}
 use Rattle.scope.specs.Limits.{maxCells, maxMissing}
 use Rattle.scope.specs.Lists.{flatten}
 use Rattle.scope.specs.Types.{Ref, Table}
-use Rattle.scope.specs.Patterns.{Matrix}
+use Rattle.scope.specs.Simplify.{Matrix}
 use Rattle.scope.specs.Walks.{Walk, collectMissingPatterns}
-use Rattle.scope.specs.Blocks.{nodesIn}
+use Rattle.scope.specs.Blocks.{Step, ok, refuse, nodesIn}
 use Rattle.layout.specs.Nodes.{rowOf}
+use Rattle.outcomes.specs.Past.{saidSeek}
 use Rattle.outcomes.specs.declared.Seek.{Seek}
 use Rattle.outcomes.specs.declared.Seek.the-variants as seek
 use Rattle.matrix.specs.Numbers.{Rows}
@@ -29,13 +30,13 @@ unfoldable pub outAfter : List ℕ → Rows → Seek → List ℕ
 outAfter out m (seek.Done w k c) = sets out 0 (flatten m)
 outAfter out m seek.Over = replicate (length out) 0
 
--- the answer that the limits make of `collect_missing_patterns`
-unfoldable pub foundOf : Walk Matrix → Seek
-foundOf w = cond (within 0 maxCells w && leb (nodesIn (w .result)) maxMissing) (seek.Done (nodesIn (w .result)) (length (w .result)) (w .calls)) seek.Over
+-- what is said under the limits of `collect_missing_patterns`: 10 exactly when one is passed
+unfoldable pub foundOf : Walk Matrix → Step (ℕ × (ℕ × ℕ))
+foundOf w = cond (within 0 maxCells w && leb (nodesIn (w .result)) maxMissing) (ok (nodesIn (w .result), (length (w .result), w .calls))) (refuse 10)
 
 -- the walk of `scope` under the limits: its answer, and its rows at the front of the buffer
 pub record Finds (bytes : List ℕ) (table : Table) (m : Matrix) (outEnd : List ℕ) (r : Seek) : Type 0 where
-  pub answer : r ≡ foundOf (collectMissingPatterns table 1 m)
+  pub answer : saidSeek r ≡ foundOf (collectMissingPatterns table 1 m)
   pub rows : (w k c : ℕ) → r ≡ seek.Done w k c → rowOf bytes (take w outEnd) ≡ flatten (collectMissingPatterns table 1 m .result)
 
 -- for every block that the slices hold

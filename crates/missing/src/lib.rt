@@ -7,6 +7,7 @@ ghost use mathlib.Core.Path.{_≡_};
 ghost use Prim.Native.Nat.{_≤_};
 ghost use lib.ListN.{length, replicate};
 ghost use Rattle.matrix.specs.Places.{Sizes, Starts};
+ghost use Rattle.outcomes.specs.Past.{saidSeek};
 ghost use Rattle.collect.specs.Ready.{sought};
 ghost use Rattle.missing.specs.Missing.{missingRows, outAfter, FindsAll};
 
@@ -24,7 +25,7 @@ pub fn missing(
     requires { ⌜ Sizes (now nodes) (now arities) ⌝ }
     requires { ⌜ Starts (now nodes) (now left) (now counts) (now arities) (now starts) ⌝ }
     requires { ⌜ (length (now starts) ≤ 64) × (16384 ≤ length (now s)) × (4096 ≤ length (now out)) ⌝ }
-    ensures { λ r. ⌜ r ≡ sought 0 16384 0 0 (missingRows (now (bytes .entry)) (now (counts .entry)) (now (arities .entry)) (now (nodes .entry)) (now (starts .entry))) ⌝ }
+    ensures { λ r. ⌜ saidSeek r ≡ sought 0 16384 0 0 (missingRows (now (bytes .entry)) (now (counts .entry)) (now (arities .entry)) (now (nodes .entry)) (now (starts .entry))) ⌝ }
     ensures { λ r. ⌜ now (out .exit) ≡ outAfter (now (out .entry)) (missingRows (now (bytes .entry)) (now (counts .entry)) (now (arities .entry)) (now (nodes .entry)) (now (starts .entry)) .result) r ⌝ }
     ensures { λ _. ⌜ now (s .exit) ≡ replicate (length (now (s .entry))) 0 ⌝ }
     ensures { λ r. ⌜ FindsAll (now (bytes .entry)) (now (nodes .entry)) (now (left .entry)) (now (counts .entry)) (now (arities .entry)) (now (starts .entry)) (now (out .exit)) r ⌝ }

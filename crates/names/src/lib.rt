@@ -2,7 +2,7 @@
 ghost use mathlib.Core.Path.{_≡_};
 ghost use mathlib.Core.List.{_++_};
 ghost use Rattle.scope.specs.Lists.{same};
-ghost use Rattle.scope.specs.Types.{consName, nilName, tupleName};
+ghost use Rattle.scope.specs.Constructors.{consName, nilName, tupleName};
 ghost use Rattle.scope.specs.Text.{contains};
 
 // "::", "[]" and "__Tuple", one after another.

@@ -7,7 +7,7 @@ use native.Mathlib.Omega.{arith}
 use lib.Dec.{ltb}
 use borrow.Author.Tests.{ltb-true, ltb-false, lt-ltb, le-ltb}
 use Rattle.scope.proofs.Tests.{clash}
-use Rattle.scope.specs.Patterns.{wild, lit, con}
+use Rattle.scope.specs.Simplify.{wild, lit, con}
 use Rattle.layout.specs.Nodes.{literalAt, nodeOf, rowOf, placesIn}
 use Rattle.nodes.specs.Keys.{keyOf, literalKey}
 

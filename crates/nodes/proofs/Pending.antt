@@ -10,7 +10,7 @@ use lib.ListN.{length, getD, set, replicate, length-set, length-replicate}
 use lib.Seq.{sets, getD-set-same, getD-set-other}
 use lib.Dec.{leb, eqb}
 use Rattle.scope.specs.Lists.{bit, sum}
-use Rattle.scope.specs.Patterns.{wild, Item, put, pat}
+use Rattle.scope.specs.Simplify.{wild, Item, put, pat}
 use Rattle.layout.specs.Nodes.{nodeOf, rowOf, Literals, done, also, placesIn}
 use Rattle.nodes.specs.Keys.{keyOf}
 use Rattle.nodes.proofs.Runs.{no-literals, plain-one, plain-wilds, no-places}

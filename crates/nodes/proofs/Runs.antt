@@ -9,7 +9,7 @@ use lib.Seq.{sets}
 use lib.Dec.{ltb}
 use borrow.Author.Tests.{lt-ltb}
 use Rattle.cells.proofs.Laws.{sets-sets}
-use Rattle.scope.specs.Patterns.{Item, put}
+use Rattle.scope.specs.Simplify.{Item, put}
 use Rattle.layout.specs.Nodes.{nodeOf, rowOf, Literals, done, also, placesIn}
 
 -- one node more of the same

@@ -6,7 +6,7 @@ use lib.ListN.{getD, replicate}
 use lib.Dec.{leb, eqb}
 use Rattle.scope.specs.Lists.{bit, flatten, sum}
 use Rattle.scope.specs.Types.{Ref}
-use Rattle.scope.specs.Patterns.{Node, wild, Item, put, pat}
+use Rattle.scope.specs.Simplify.{Node, wild, Item, put, pat}
 use Rattle.layout.specs.Nodes.{nodeOf}
 use Rattle.nodes.specs.Keys.{keyOf}
 use Rattle.nodes.specs.declared.Open.{Open}

@@ -19,7 +19,8 @@ early-stands (suc zero) k (inl e) = rw e
 early-stands (suc zero) k (inr e) = rw e
 early-stands (suc (suc zero)) k (inl e) = rw e
 early-stands (suc (suc zero)) k (inr e) = rw e
-early-stands (suc (suc (suc p))) k e = le-ltb (suc (suc (suc p))) 2 (omega arith)
+early-stands (suc (suc (suc zero))) k e = refl
+early-stands (suc (suc (suc (suc p)))) k e = le-ltb (suc (suc (suc (suc p)))) 2 (omega arith)
 
 -- a constructor
 pub constructor-stands : (p k : ℕ) → k ≡ 2 → eqb p 1 ≡ standsIn p k
@@ -27,7 +28,8 @@ unfolding standsIn
 constructor-stands zero k e = rw e
 constructor-stands (suc zero) k e = rw e
 constructor-stands (suc (suc zero)) k e = rw e
-constructor-stands (suc (suc (suc p))) k e = ne-eqb (suc (suc (suc p))) 1 (λ h. absurd (omega arith))
+constructor-stands (suc (suc (suc zero))) k e = refl
+constructor-stands (suc (suc (suc (suc p)))) k e = ne-eqb (suc (suc (suc (suc p)))) 1 (λ h. absurd (omega arith))
 
 -- a clause and the end, after the subject
 pub late-stands : (p k : ℕ) → (k ≡ 4) ⊎ (k ≡ 5) → eqb p 2 ≡ standsIn p k
@@ -38,7 +40,8 @@ late-stands (suc zero) k (inl e) = rw e
 late-stands (suc zero) k (inr e) = rw e
 late-stands (suc (suc zero)) k (inl e) = rw e
 late-stands (suc (suc zero)) k (inr e) = rw e
-late-stands (suc (suc (suc p))) k e = ne-eqb (suc (suc (suc p))) 2 (λ h. absurd (omega arith))
+late-stands (suc (suc (suc zero))) k e = refl
+late-stands (suc (suc (suc (suc p)))) k e = ne-eqb (suc (suc (suc (suc p)))) 2 (λ h. absurd (omega arith))
 
 -- any other kind
 pub none-stands : (p k : ℕ) → (k ≡ 1 → ⊥) → (k ≡ 2 → ⊥) → (k ≡ 3 → ⊥) → (k ≡ 4 → ⊥) → (k ≡ 5 → ⊥) → false ≡ standsIn p k
@@ -46,14 +49,16 @@ unfolding standsIn
 none-stands zero k a b c d e = rw (ne-eqb k 1 a, ne-eqb k 3 c)
 none-stands (suc zero) k a b c d e = rw (ne-eqb k 1 a, ne-eqb k 2 b, ne-eqb k 3 c)
 none-stands (suc (suc zero)) k a b c d e = rw (ne-eqb k 4 d, ne-eqb k 5 e)
-none-stands (suc (suc (suc p))) k a b c d e = refl
+none-stands (suc (suc (suc zero))) k a b c d e = refl
+none-stands (suc (suc (suc (suc p)))) k a b c d e = refl
 
-pub closes-late : (p : ℕ) → ltb 2 p ≡ closesIn p
+pub closes-last : (p : ℕ) → eqb p 3 ≡ closesIn p
 unfolding closesIn
-closes-late zero = refl
-closes-late (suc zero) = refl
-closes-late (suc (suc zero)) = refl
-closes-late (suc (suc (suc p))) = lt-ltb 2 (suc (suc (suc p))) (omega arith)
+closes-last zero = refl
+closes-last (suc zero) = refl
+closes-last (suc (suc zero)) = refl
+closes-last (suc (suc (suc zero))) = refl
+closes-last (suc (suc (suc (suc p)))) = ne-eqb (suc (suc (suc (suc p)))) 3 (λ h. absurd (omega arith))
 
 -- 6
 module _ (s : State) (last : ℕ) where

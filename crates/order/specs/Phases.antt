@@ -1,7 +1,8 @@
 -- The phases of a file, what may stand in each and where it may end, how much of each frame there may be, and the numbers before any clause.
 use mathlib.Core.Path.{_≡_}
 use mathlib.Core.Bool.{Bool, true, false, _&&_}
-use mathlib.Core.List.{[], _∷_}
+use mathlib.Core.List.{List, [], _∷_}
+use mathlib.Core.Option.{Option, none, some}
 use Prim.Native.Nat.{ℕ, zero, suc}
 use lib.ListN.{getD}
 use lib.Dec.{ltb, eqb}
@@ -9,23 +10,30 @@ use Rattle.scope.specs.Lists.{any}
 use Rattle.scope.specs.Blocks.{Phase, types, constructors, clauses, closed, standing}
 use Rattle.order.specs.declared.State.{State}
 
--- the phase of a number: 0 types, 1 constructors, 2 clauses, else closed
-abbrev pub phaseOf : ℕ → Phase
-phaseOf zero = types
-phaseOf (suc zero) = constructors
-phaseOf (suc (suc zero)) = clauses
-phaseOf (suc (suc (suc n))) = closed
+-- the phase of a number: 0 types, 1 constructors, 2 clauses, 3 closed; a number past those is no phase
+abbrev pub phaseOf : ℕ → Option Phase
+phaseOf zero = some types
+phaseOf (suc zero) = some constructors
+phaseOf (suc (suc zero)) = some clauses
+phaseOf (suc (suc (suc zero))) = some closed
+phaseOf (suc (suc (suc (suc n)))) = none
+
+-- the kinds that may stand in a phase; in none, none
+abbrev pub standingAt : Option Phase → List ℕ
+standingAt none = []
+standingAt (some p) = standing p
 
 -- 5: may a frame of kind k stand in this phase
 unfoldable pub standsIn : ℕ → ℕ → Bool
-standsIn phase k = any (eqb k) (standing (phaseOf phase))
+standsIn phase k = any (eqb k) (standingAt (phaseOf phase))
 
 -- the end is there
-abbrev pub isClosed : Phase → Bool
-isClosed types = false
-isClosed constructors = false
-isClosed clauses = false
-isClosed closed = true
+abbrev pub isClosed : Option Phase → Bool
+isClosed none = false
+isClosed (some types) = false
+isClosed (some constructors) = false
+isClosed (some clauses) = false
+isClosed (some closed) = true
 
 -- 5: may a file end in this phase
 unfoldable pub closesIn : ℕ → Bool

@@ -58,7 +58,7 @@ pub fn stands(phase: u8, kind: u8) -> bool
 pub fn closes(phase: u8) -> bool
     ensures { λ r. ⌜ r ≡ closesIn phase ⌝ }
 {
-    2 < phase
+    phase == 3
 }
 
 // 6: is there room for one more constructor, of so many, where the last type has `last`.

@@ -2,8 +2,8 @@
 ghost use mathlib.Core.Path.{_≡_};
 ghost use Prim.Native.Nat.{_+_, _≤_, _<_};
 ghost use Rattle.scope.specs.Lists.{bit};
-ghost use Rattle.outcomes.specs.declared.Verdict.the-variants.{Done};
-ghost use Rattle.outcomes.specs.Past.{past, fitting, counting};
+ghost use Rattle.scope.specs.Blocks.{ok};
+ghost use Rattle.outcomes.specs.Past.{saidVerdict, saidSpelt, saidSeek, past, fitting, counting};
 
 pub enum Verdict {
     Done { yes: bool, calls: usize },
@@ -37,7 +37,7 @@ pub fn over(calls: usize, cells: usize, room: usize) -> bool
 // A call of `is_useful` that makes no other: itself counted.
 pub fn leaf(yes: bool, calls: usize) -> Verdict
     requires { ⌜ calls < 65536 ⌝ }
-    ensures { λ r. ⌜ r ≡ Done yes (calls + 1) ⌝ }
+    ensures { λ r. ⌜ saidVerdict r ≡ ok (yes, calls + 1) ⌝ }
 {
     let c = calls + 1;
     Verdict::Done { yes, calls: c }
@@ -53,7 +53,7 @@ pub fn bit_of(reached: bool) -> u8
 // One row more, written up to the place `at`: over the limit of nodes, or not.
 pub fn fit(at: usize, rows: usize) -> Spelt
     requires { ⌜ rows ≤ 4096 ⌝ }
-    ensures { λ r. ⌜ r ≡ fitting at rows ⌝ }
+    ensures { λ r. ⌜ saidSpelt r ≡ fitting at rows ⌝ }
 {
     if 4096 < at {
         return Spelt::Over;
@@ -67,7 +67,7 @@ pub fn fit(at: usize, rows: usize) -> Spelt
 // A call of `collect_missing_patterns` that makes no other, its rows written out: itself counted.
 pub fn counted(r: Spelt, calls: usize) -> Seek
     requires { ⌜ calls < 65536 ⌝ }
-    ensures { λ s. ⌜ s ≡ counting r calls ⌝ }
+    ensures { λ s. ⌜ saidSeek s ≡ counting (saidSpelt r) calls ⌝ }
 {
     match r {
         Spelt::Over => Seek::Over,

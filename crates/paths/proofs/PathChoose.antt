@@ -1,5 +1,5 @@
 -- The calls of `put_rows` and `choose` of one another, over plain lists: what each asks, and what each answer gives.
-use mathlib.Core.Path.{_≡_, sym, ap, ap₂, subst, subst₂, _∙_}
+use mathlib.Core.Path.{_≡_, sym, ap, ap₂, subst, _∙_}
 use mathlib.Core.Logic.{⊎-elim}
 use mathlib.Core.List.{List, [], _∷_, _++_}
 use Prim.Native.Nat.{ℕ, _+_, _-_, _/_, _%_, _≤_, _<_}
@@ -10,8 +10,8 @@ use lib.Seq.{getD-set-other, set-set, set-getD}
 use Rattle.matrix.specs.Numbers.{Rows, arOf}
 use Rattle.outcomes.specs.declared.Spelt.{Spelt}
 use Rattle.outcomes.specs.declared.Spelt.the-variants.{Done, Over}
-use Rattle.outcomes.specs.Past.{fitting}
-use Rattle.outcomes.proofs.Tests.{fits, fits-not}
+use Rattle.outcomes.specs.Past.{saidSpelt, fitting}
+use Rattle.outcomes.proofs.Tests.{same-spelt, fits, fits-not}
 use Rattle.matrix.proofs.Orders.{le-or}
 use Rattle.paths.specs.Path.{Step, chosen, under, pathOf, spelt}
 use Rattle.paths.specs.Spread.{Put, Spread, Spelling}
@@ -29,11 +29,11 @@ module _ (ars path alts : List ℕ) (depth k n written rows : ℕ) (sp : Spellin
   all-chosen z = ap (λ (j : ℕ). under ars (pathOf path alts j) (spelt ars path alts j (depth - j) n ∷ [])) z ∙ ap (λ (j : ℕ). spelt ars path alts 0 j n ∷ []) (sub-zero depth)
 
   module _ (z : k ≡ 0) (d : List ℕ) (at : ℕ) (e : List ℕ) (p : Put d written (spelt ars path alts 0 depth n) at e) where
-    pub rows-fit : (v : Spelt) → v ≡ fitting at rows → Spread d written rows (under ars (pathOf path alts k) (spelt ars path alts k (depth - k) n ∷ [])) v e
-    rows-fit v q = subst₂ (λ (m : Rows) (x : Spelt). Spread d written rows m x e) (sym (all-chosen z)) (sym q)
+    pub rows-fit : (v : Spelt) → saidSpelt v ≡ fitting at rows → Spread d written rows (under ars (pathOf path alts k) (spelt ars path alts k (depth - k) n ∷ [])) v e
+    rows-fit v q = subst (λ (m : Rows). Spread d written rows m v e) (sym (all-chosen z))
         (⊎-elim
-        (λ l. subst (λ (x : Spelt). Spread d written rows (spelt ars path alts 0 depth n ∷ []) x e) (fits at rows l) (spread-one d written rows (spelt ars path alts 0 depth n) at e p l (sp .few) (omega (arith, spelt-least ars path alts n depth 0, sp .some))))
-        (λ l. subst (λ (x : Spelt). Spread d written rows (spelt ars path alts 0 depth n ∷ []) x e) (fits-not at rows l) (spread-over d written rows (spelt ars path alts 0 depth n) at e p l))
+        (λ l. subst (λ (x : Spelt). Spread d written rows (spelt ars path alts 0 depth n ∷ []) x e) (sym (same-spelt v (Done at (rows + 1)) (q ∙ sym (fits at rows l)))) (spread-one d written rows (spelt ars path alts 0 depth n) at e p l (sp .few) (omega (arith, spelt-least ars path alts n depth 0, sp .some))))
+        (λ l. subst (λ (x : Spelt). Spread d written rows (spelt ars path alts 0 depth n ∷ []) x e) (sym (same-spelt v Over (q ∙ sym (fits-not at rows l)))) (spread-over d written rows (spelt ars path alts 0 depth n) at e p l))
         (le-or at 4096))
 
   module _ (pos : 0 < k) (d : List ℕ) (r : Spelt) (e : List ℕ) where

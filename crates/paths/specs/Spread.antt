@@ -8,6 +8,8 @@ use lib.Seq.{sets}
 use lib.Dec.{leb}
 use Rattle.scope.specs.Limits.{maxMissing}
 use Rattle.scope.specs.Lists.{sum, flatten}
+use Rattle.scope.specs.Blocks.{Step, ok, refuse}
+use Rattle.outcomes.specs.Past.{saidSpelt}
 use Rattle.outcomes.specs.declared.Spelt.{Spelt}
 use Rattle.outcomes.specs.declared.Spelt.the-variants as spelt
 use Rattle.matrix.specs.Numbers.{Rows}
@@ -21,13 +23,13 @@ pub record Put (d : List ℕ) (at : ℕ) (vs : List ℕ) (r : ℕ) (e : List ℕ
   pub place : r ≡ at + length vs
   pub text : e ≡ sets d at vs
 
--- rows written out after so many nodes and rows: over exactly when the nodes are over 4,096
-unfoldable pub fitted : ℕ → ℕ → Rows → Spelt
-fitted written rows m = cond (leb (written + nodesOf m) maxMissing) (spelt.Done (written + nodesOf m) (rows + length m)) spelt.Over
+-- what is said of rows written out after so many nodes and rows: 10 exactly when the nodes are over 4,096
+unfoldable pub fitted : ℕ → ℕ → Rows → Step (ℕ × ℕ)
+fitted written rows m = cond (leb (written + nodesOf m) maxMissing) (ok (written + nodesOf m, rows + length m)) (refuse 10)
 
 -- the answer r of writing the rows m out to d
 pub record Spread (d : List ℕ) (written rows : ℕ) (m : Rows) (r : Spelt) (e : List ℕ) : Type 0 where
-  pub is : r ≡ fitted written rows m
+  pub is : saidSpelt r ≡ fitted written rows m
   pub long : length e ≡ length d
   pub text : (w k : ℕ) → r ≡ spelt.Done w k → e ≡ sets d written (flatten m)
   pub few : (w k : ℕ) → r ≡ spelt.Done w k → k ≤ w

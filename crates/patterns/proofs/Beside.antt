@@ -11,14 +11,18 @@ use lib.Dec.{ltb}
 use borrow.Author.Tests.{ltb-true, ltb-false}
 use Rattle.scope.proofs.Tests.{clash}
 use Rattle.laws.proofs.Typing.{simplify-typed}
-use Rattle.scope.specs.Types.{Ref, Ty, opaque, Table, ctorsAt, ctors, fieldsAt}
-use Rattle.scope.specs.Patterns.{Node, wild, lit, con, Row, Typed, Raw, simplify}
+use Rattle.scope.specs.Types.{Ref, Ty, opaque, Table}
+use Rattle.scope.specs.Constructors.{ctorsAt, ctors, fieldsAt}
+use Rattle.scope.specs.Patterns.{Raw}
+use Rattle.scope.specs.Simplify.{Node, wild, lit, con, Row, simplify}
+use Rattle.laws.specs.Typed.{Typed}
 use Rattle.layout.specs.Types.{Shape}
 use Rattle.layout.specs.Nodes.{nodeOf, rowOf, leftOf}
 use Rattle.layout.specs.Nodes as Nodes
 use Rattle.nodes.specs.Keys.{low16}
 use Rattle.nodes.specs.Lefts.{arityOf, leftsOf}
-use Rattle.patterns.specs.Rows.{Given, Answers, Beside, Reading, Simplifies}
+use Rattle.scope.specs.Blocks.{ok, refuse}
+use Rattle.patterns.specs.Rows.{Given, saidSimplified, Answers, Beside, Reading, Simplifies}
 use Rattle.patterns.specs.declared.Simplified.{Simplified}
 use Rattle.patterns.specs.declared.Simplified.the-variants.{Row as Kept, Unsuited}
 
@@ -118,7 +122,7 @@ module _ (bytes : List ℕ) (from : ℕ) (kinds counts arities starts fields : L
     where
       none-beside : (table : Table) (o : Option Row) → Answers bytes (q .new) o r → Beside used (length nodes) table o []
       none-beside table none a = refl
-      none-beside table (some row) a = clash (cc (a .0))
+      none-beside table (some row) a = let f : refuse 8 ≡ ok (length row) = sym (ap saidSimplified e) ∙ a .0 in clash (cc)
 
   module _ (count : ℕ) (short : length nodes < 32768) (room : used ≤ length nodes) (r : Simplified) (e : r ≡ Kept count) (q : Reading bytes from kinds counts arities starts fields subject used nodes nodes′ r) where
     len : count ≡ length (q .new)
@@ -161,7 +165,7 @@ module _ (bytes : List ℕ) (from : ℕ) (kinds counts arities starts fields : L
         there = run-there nodes nodes′ (q .new) used count (q .nodesAre) len (omega arith)
 
         beside : (table : Table) (raws : List Raw) → Given kinds counts arities starts fields subject table → (o : Option Row) → simplify table subject raws ≡ o → Answers bytes (q .new) o r → Beside used (length nodes) table o (map low16 (leftsOf arities 1 (q .new)))
-        beside table raws g none i a = clash (cc)
+        beside table raws g none i a = let f : ok count ≡ refuse 8 = sym (ap saidSimplified e) ∙ a in clash (cc)
         beside table raws g (some row) i a =
             let typed : Typed table (subject ∷ []) (rowOf bytes (q .new)) = subst (λ (s : Row). Typed table (subject ∷ []) s) (sym (a .1)) (simplify-typed table subject raws row i) in (
               λ j. lefts-are table bytes kinds counts arities (g .shape) (q .new) (subject ∷ []) 1 typed refl (omega (arith, len)) ∙ ap₂ (λ (n : ℕ) (s : Row). take n (leftOf table 1 s)) (sym len ∙ sym (row-length row (a .1))) (a .1),

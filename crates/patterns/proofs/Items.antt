@@ -10,8 +10,11 @@ use lib.Dec.{ltb, eqb}
 use borrow.Author.Tests.{ltb-true, ltb-false, eqb-true}
 use Rattle.scope.proofs.Tests.{clash, both}
 use Rattle.scope.specs.Lists.{all, flatten}
-use Rattle.scope.specs.Types.{Ref, Ctor, Ty, integer, byteString, opaque, list, tuple, pair, dat, Table, typeAt, kind, built, fieldsOf, ctorsAt, ctors, fieldsAt, arity, refs, isRef, refsGood}
-use Rattle.scope.specs.Patterns.{int, byteArray, Node, wild, lit, con, Row, Raw, discard, variable, assign, pairOf, number, string, listOf, constructor, tupleOf, Item, put, pat, suiting, cells, enough, arguments, whole, opened, simplified}
+use Rattle.scope.specs.Types.{Ref, Ctor, Ty, integer, byteString, opaque, list, tuple, pair, dat, Table, typeAt, kind, fieldsOf}
+use Rattle.scope.specs.Finite.{refs, isRef, refsGood}
+use Rattle.scope.specs.Constructors.{built, ctorsAt, ctors, fieldsAt, arity}
+use Rattle.scope.specs.Patterns.{Raw, discard, variable, assign, pairOf, integerOf, byteStringOf, listOf, constructor, tupleOf}
+use Rattle.scope.specs.Simplify.{int, byteArray, Node, wild, lit, con, Row, Item, put, pat, suiting, elementItems, enough, arguments, whole, opened, simplified}
 use Rattle.layout.specs.Nodes.{nodeOf, rowOf}
 use Rattle.suits.proofs.Facts.{list-facts}
 
@@ -137,7 +140,7 @@ module _ (table : Table) where
     first-good [] h g = absurd (omega arith)
     first-good (x ∷ l) h g = ltb-true x (length table) (both (isRef table x) (all (isRef table) l) g .0)
 
-    cells-refs : (e : Ref) (k : ℕ) (tail : Bool) → e < length table → Refs (length table) (cells t e k tail)
+    cells-refs : (e : Ref) (k : ℕ) (tail : Bool) → e < length table → Refs (length table) (elementItems t e k tail)
     cells-refs e zero true l = pats here nothing
     cells-refs e zero false l = puts nothing
     cells-refs e (suc k) tail l = puts (pats l (cells-refs e k tail l))
@@ -152,13 +155,13 @@ module _ (table : Table) where
     -- what a pattern becomes
     pub opened-refs : (p : Raw) (new : List Item) → opened table t p ≡ some new → Refs (length table) new
     opened-refs discard new e = given (put wild ∷ []) new e (puts nothing)
-    opened-refs variable new e = given (put wild ∷ []) new e (puts nothing)
-    opened-refs assign new e = given (pat t ∷ []) new e (pats here nothing)
+    opened-refs (variable n) new e = given (put wild ∷ []) new e (puts nothing)
+    opened-refs (assign n) new e = given (pat t ∷ []) new e (pats here nothing)
     opened-refs pairOf new e = suiting-refs (eqb (kind (typeAt table t)) 5) (whole t (fieldsAt table t 0)) new e (λ h. puts (refs-pats (fieldsAt table t 0) (good-fields 0)))
-    opened-refs (number n) new e = suiting-refs (eqb (kind (typeAt table t)) 0) (put (lit (int n)) ∷ []) new e (λ h. puts nothing)
-    opened-refs (string s) new e = suiting-refs (eqb (kind (typeAt table t)) 1) (put (lit (byteArray s)) ∷ []) new e (λ h. puts nothing)
+    opened-refs (integerOf n) new e = suiting-refs (eqb (kind (typeAt table t)) 0) (put (lit (int n)) ∷ []) new e (λ h. puts nothing)
+    opened-refs (byteStringOf s) new e = suiting-refs (eqb (kind (typeAt table t)) 1) (put (lit (byteArray s)) ∷ []) new e (λ h. puts nothing)
     opened-refs (listOf k tail) new e =
-        suiting-refs (eqb (kind (typeAt table t)) 3) (cells t (getD (fieldsAt table t 0) 0 0) k tail) new e
+        suiting-refs (eqb (kind (typeAt table t)) 3) (elementItems t (getD (fieldsAt table t 0) 0 0) k tail) new e
         (λ h. cells-refs (getD (fieldsAt table t 0) 0 0) k tail (first-good (fieldsAt table t 0) (omega (arith, list-facts t (typeAt table t) (eqb-true (kind (typeAt table t)) 3 h) .1)) (good-fields 0)))
     opened-refs (constructor c k spread) new e =
         suiting-refs (eqb (kind (typeAt table t)) 6 && ltb c (length (ctors table t)) && enough k spread (fieldsAt table t c)) (put (con t c) ∷ arguments k (fieldsAt table t c)) new e

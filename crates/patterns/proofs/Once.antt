@@ -10,11 +10,13 @@ use lib.Dec.{leb}
 use borrow.Author.Tests.{leb-true, leb-false}
 use Rattle.scope.proofs.Tests.{clash}
 use Rattle.scope.specs.Types.{Table}
-use Rattle.scope.specs.Patterns.{Row, Raw, simplify}
+use Rattle.scope.specs.Patterns.{Raw}
+use Rattle.scope.specs.Simplify.{Row, simplify}
 use Rattle.scope.specs.Frames.{found, patterns}
+use Rattle.scope.specs.Blocks.{ok, refuse}
 use Rattle.layout.specs.Nodes.{rowOf}
 use Rattle.nodes.proofs.Numbers.{same-nodes}
-use Rattle.patterns.specs.Rows.{Given, Answers, Beside, Simplifies}
+use Rattle.patterns.specs.Rows.{Given, saidSimplified, Answers, Beside, Simplifies}
 use Rattle.patterns.specs.declared.Simplified.{Simplified}
 use Rattle.patterns.specs.declared.Simplified.the-variants.{Row as Kept, Unsuited}
 
@@ -28,13 +30,19 @@ same-lefts used size table (some row) a b h k = go (leb (used + length row) size
     go false e = let l = leb-false (used + length row) size e in h .1 l ∙ sym (k .1 l)
 
 -- the answer for one row is one
+same-said : (r s : Simplified) → saidSimplified r ≡ saidSimplified s → r ≡ s
+same-said (Kept m) (Kept n) e = let i : m ≡ n = cc in ap Kept i
+same-said (Kept m) Unsuited e = clash (cc)
+same-said Unsuited (Kept n) e = clash (cc)
+same-said Unsuited Unsuited e = refl
+
 same-answer : (bytes m n : List ℕ) (o : Option Row) (r s : Simplified) → Answers bytes m o r → Answers bytes n o s → r ≡ s
-same-answer bytes m n none r s h k = h ∙ sym k
-same-answer bytes m n (some row) r s h k = h .0 ∙ sym (k .0)
+same-answer bytes m n none r s h k = same-said r s (h ∙ sym k)
+same-answer bytes m n (some row) r s h k = same-said r s (h .0 ∙ sym (k .0))
 
 -- where the answer is a row, the nodes say it
 same-row : (bytes m n : List ℕ) (o : Option Row) (r s : Simplified) (count : ℕ) → r ≡ Kept count → Answers bytes m o r → Answers bytes n o s → rowOf bytes m ≡ rowOf bytes n
-same-row bytes m n none r s count e h k = let f : Kept count ≡ Unsuited = sym e ∙ h in clash (cc)
+same-row bytes m n none r s count e h k = let f : ok count ≡ refuse 8 = sym (ap saidSimplified e) ∙ h in clash (cc)
 same-row bytes m n (some row) r s count e h k = h .1 ∙ sym (k .1)
 
 module _ {bytes : List ℕ} {from : ℕ} {kinds counts arities starts fields : List ℕ} {subject used : ℕ} {nodes left a b x y : List ℕ} {r s : Simplified} (h : Simplifies bytes from kinds counts arities starts fields subject used nodes left a x r) (k : Simplifies bytes from kinds counts arities starts fields subject used nodes left b y s) (raws : List Raw) (whole : patterns 1 (drop from bytes) ≡ found raws []) (table : Table) (given : Given kinds counts arities starts fields subject table) where

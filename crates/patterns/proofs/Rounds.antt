@@ -10,14 +10,15 @@ use lib.Seq.{sets}
 use Rattle.scope.proofs.Tests.{clash}
 use Rattle.laws.proofs.Reading.{patterns-none}
 use Rattle.scope.specs.Types.{Table}
-use Rattle.scope.specs.Patterns.{Row, Raw, inner, Item, pat, simplified, simplify}
+use Rattle.scope.specs.Patterns.{Raw, inner}
+use Rattle.scope.specs.Simplify.{Row, Item, pat, simplified, simplify}
 use Rattle.scope.specs.Frames.{Read, found, patterns}
 use Rattle.layout.specs.Nodes.{nodeOf, rowOf, Literals, done, placesIn}
 use Rattle.nodes.proofs.Runs.{stores, literals-append, places-append}
 use Rattle.suits.specs.Raws.{rawAt, sizeAt, ownPlace}
 use Rattle.nodes.specs.Opens.{opens, pending, due}
 use Rattle.settle.specs.declared.Next.the-variants.{Read as Next·Read, Done, Wrong}
-use Rattle.patterns.specs.Rows.{literalPlaces, Ready, Given, Turned, Answers, Reading}
+use Rattle.patterns.specs.Rows.{literalPlaces, Ready, Given, Turned, saidSimplified, Answers, Reading}
 use Rattle.patterns.specs.declared.Simplified.{Simplified}
 use Rattle.patterns.specs.declared.Simplified.the-variants.{Row as Kept, Unsuited}
 use Rattle.patterns.proofs.Scan.{read-step}
@@ -138,7 +139,7 @@ module _ (bytes kinds counts arities starts fields : List ℕ) (from subject use
                 }
 
         answers : (new : List ℕ) (o : Option Row) (r : Simplified) (row : Row) → o ≡ some row → rowOf bytes new ≡ row → r ≡ Kept (length row) → Answers bytes new o r
-        answers new o r row e f h = rw e (h, f)
+        answers new o r row e f h = rw e (ap saidSimplified h, f)
 
         refuses : (new : List ℕ) (o : Option Row) → o ≡ none → Answers bytes new o Unsuited
         refuses new o e = rw e refl

@@ -13,7 +13,8 @@ use lib.Dec.{ltb}
 use borrow.Author.Tests.{ltb-false}
 use Rattle.cells.proofs.Laws.{sets-sets}
 use Rattle.scope.specs.Types.{Table}
-use Rattle.scope.specs.Patterns.{lit, con, Row, Raw, simplify}
+use Rattle.scope.specs.Patterns.{Raw}
+use Rattle.scope.specs.Simplify.{lit, con, Row, simplify}
 use Rattle.scope.specs.Frames.{found, patterns}
 use Rattle.layout.specs.Types.{textAt}
 use Rattle.layout.specs.Nodes.{literalAt, nodeOf, rowOf, leftOf, LiteralStands, Literals, done, also}

@@ -13,8 +13,8 @@ use borrow.Author.Tests.{leb-true}
 use Rattle.scope.proofs.Tests.{clash, both}
 use Rattle.laws.proofs.Reading.{patterns-law}
 use Rattle.scope.specs.Lists.{Text, among}
-use Rattle.scope.specs.Patterns.{Raw, discard, variable, assign, pairOf, number, string, listOf, constructor, tupleOf, inner}
-use Rattle.scope.specs.Frames.{Read, fault, found, Reader, andThen, _>>=_, give, byte, passing, within, flag, times, judging, name, text, smallName, isDecimal, pattern, patterns}
+use Rattle.scope.specs.Patterns.{Raw, discard, variable, assign, pairOf, integerOf, byteStringOf, listOf, constructor, tupleOf, inner}
+use Rattle.scope.specs.Frames.{Read, fault, found, Reader, andThen, _>>=_, give, byte, passing, within, flag, times, onlyIf, nameBy, textFrom, smallName, isDecimal, pattern, patterns}
 use Rattle.layout.specs.Types.{textAt}
 use Rattle.suits.specs.Raws.{rawAt, sizeOf, sizeAt}
 
@@ -71,7 +71,7 @@ times-takes r o (suc n) bs l rest e =
     }
 
 -- a name: its length, then as many bytes
-name-takes : (first other : ℕ → Bool) (bs : List ℕ) (a : Text) (rest : List ℕ) → name first other bs ≡ found a rest → (rest ≡ drop (1 + getD bs 0 0) bs) × (1 + getD bs 0 0 ≤ length bs)
+name-takes : (first other : ℕ → Bool) (bs : List ℕ) (a : Text) (rest : List ℕ) → nameBy first other bs ≡ found a rest → Takes bs rest a (take (getD bs 0 0) (drop 1 bs)) (1 + getD bs 0 0)
 name-takes first other bs a rest e =
     let w = bind-found (within 1 32 bs) (λ n. passing first >>= λ b. times (n - 1) (passing other) >>= λ l. give (b ∷ l)) a rest e in
     let p = passing-takes (among 1 32) bs (w .0) (w .1) (w .2) in
@@ -81,15 +81,19 @@ name-takes first other bs a rest e =
     let u = bind-found (times (w .0 - 1) (passing other) (v .1)) (λ l. give (v .0 ∷ l)) a rest (v .3) in
     let s = times-takes (passing other) (record { takes = λ xs b r h. passing-takes other xs b r h .0 }) (w .0 - 1) (v .1) (u .0) (u .1) (u .2) in
     let z = found-is (v .0 ∷ u .0) a (u .1) rest (u .3) in
-    let n : 1 + (1 + (w .0 - 1)) ≡ 1 + getD bs 0 0 = omega (arith, p .0 .value) in (
-      sym (z .1) ∙ s .after ∙ ap (drop (w .0 - 1)) (q .after ∙ ap (drop 1) (p .0 .after)) ∙ drop-drop (w .0 - 1) 1 (drop 1 bs) ∙ drop-drop (1 + (w .0 - 1)) 1 bs ∙ ap (λ (k : ℕ). drop k bs) n,
-      omega (arith, s .inside, q .inside, p .0 .inside, p .0 .value, ap length (q .after), ap length (p .0 .after), length-drop 1 bs, length-drop 1 (w .1)),
-    )
+    let n : 1 + (1 + (w .0 - 1)) ≡ 1 + getD bs 0 0 = omega (arith, p .0 .value) in
+    let c : w .1 ≡ getD (w .1) 0 0 ∷ drop 1 (w .1) = drop-cons (w .1) 0 0 (q .inside) in
+    let m : suc (w .0 - 1) ≡ w .0 = omega arith in
+    record {
+      value = sym (z .0) ∙ ap₂ _∷_ (q .value) (s .value ∙ ap (take (w .0 - 1)) (q .after)) ∙ sym (ap (take (suc (w .0 - 1))) c) ∙ ap (λ (k : ℕ). take k (w .1)) m ∙ ap₂ take (p .0 .value) (p .0 .after);
+      after = sym (z .1) ∙ s .after ∙ ap (drop (w .0 - 1)) (q .after ∙ ap (drop 1) (p .0 .after)) ∙ drop-drop (w .0 - 1) 1 (drop 1 bs) ∙ drop-drop (1 + (w .0 - 1)) 1 bs ∙ ap (λ (k : ℕ). drop k bs) n;
+      inside = omega (arith, s .inside, q .inside, p .0 .inside, p .0 .value, ap length (q .after), ap length (p .0 .after), length-drop 1 bs, length-drop 1 (w .1));
+    }
 
 -- a text: its length, then as many bytes
-text-takes : (lo : ℕ) (good : Text → Bool) (bs : List ℕ) (a : Text) (rest : List ℕ) → text lo good bs ≡ found a rest → Takes bs rest a (take (getD bs 0 0) (drop 1 bs)) (1 + getD bs 0 0)
+text-takes : (lo : ℕ) (good : Text → Bool) (bs : List ℕ) (a : Text) (rest : List ℕ) → textFrom lo good bs ≡ found a rest → Takes bs rest a (take (getD bs 0 0) (drop 1 bs)) (1 + getD bs 0 0)
 text-takes lo good bs a rest e =
-    let w = bind-found (within lo 64 bs) (λ n. judging good (times n byte)) a rest e in
+    let w = bind-found (within lo 64 bs) (λ n. onlyIf good (times n byte)) a rest e in
     let p = passing-takes (among lo 64) bs (w .0) (w .1) (w .2) .0 in
     let v = bind-found (times (w .0) byte (w .1)) (λ l r. cond (good l) (found l r) (fault (w .1))) a rest (w .3) in
     let s = times-takes byte (record { takes = byte-takes }) (w .0) (w .1) (v .0) (v .1) (v .2) in
@@ -155,25 +159,25 @@ unfolding pattern rawAt sizeAt textAt smallName
 front [] p rest e = clash (cc)
 front (zero ∷ bs) p rest e = let z = found-is discard p bs rest e in record { is = sym (z .0); after = sym (z .1); some = omega arith; inside = omega arith }
 front (suc zero ∷ bs) p rest e =
-    let w = bind-found (smallName bs) (λ n. give variable) p rest e in
+    let w = bind-found (smallName bs) (λ n. give (variable n)) p rest e in
     let n = name-takes _ _ bs (w .0) (w .1) (w .2) in
-    let z = found-is variable p (w .1) rest (w .3) in
-    record { is = sym (z .0); after = sym (z .1) ∙ n .0 ∙ over 1 (getD bs 0 0) bs; some = omega arith; inside = omega (arith, n .1) }
+    let z = found-is (variable (w .0)) p (w .1) rest (w .3) in
+    record { is = sym (z .0) ∙ ap variable (n .value); after = sym (z .1) ∙ n .after ∙ over 1 (getD bs 0 0) bs; some = omega arith; inside = omega (arith, n .inside) }
 front (suc (suc zero) ∷ bs) p rest e =
-    let w = bind-found (smallName bs) (λ n. give assign) p rest e in
+    let w = bind-found (smallName bs) (λ n. give (assign n)) p rest e in
     let n = name-takes _ _ bs (w .0) (w .1) (w .2) in
-    let z = found-is assign p (w .1) rest (w .3) in
-    record { is = sym (z .0); after = sym (z .1) ∙ n .0 ∙ over 2 (getD bs 0 0) bs; some = omega arith; inside = omega (arith, n .1) }
+    let z = found-is (assign (w .0)) p (w .1) rest (w .3) in
+    record { is = sym (z .0) ∙ ap assign (n .value); after = sym (z .1) ∙ n .after ∙ over 2 (getD bs 0 0) bs; some = omega arith; inside = omega (arith, n .inside) }
 front (suc (suc (suc zero)) ∷ bs) p rest e =
-    let w = bind-found (text 1 isDecimal bs) (λ t. give (number t)) p rest e in
+    let w = bind-found (textFrom 1 isDecimal bs) (λ t. give (integerOf t)) p rest e in
     let n = text-takes 1 isDecimal bs (w .0) (w .1) (w .2) in
-    let z = found-is (number (w .0)) p (w .1) rest (w .3) in
-    record { is = sym (z .0) ∙ ap number (n .value); after = sym (z .1) ∙ n .after ∙ over 3 (getD bs 0 0) bs; some = omega arith; inside = omega (arith, n .inside) }
+    let z = found-is (integerOf (w .0)) p (w .1) rest (w .3) in
+    record { is = sym (z .0) ∙ ap integerOf (n .value); after = sym (z .1) ∙ n .after ∙ over 3 (getD bs 0 0) bs; some = omega arith; inside = omega (arith, n .inside) }
 front (suc (suc (suc (suc zero))) ∷ bs) p rest e =
-    let w = bind-found (text 0 (λ t. true) bs) (λ t. give (string t)) p rest e in
+    let w = bind-found (textFrom 0 (λ t. true) bs) (λ t. give (byteStringOf t)) p rest e in
     let n = text-takes 0 (λ t. true) bs (w .0) (w .1) (w .2) in
-    let z = found-is (string (w .0)) p (w .1) rest (w .3) in
-    record { is = sym (z .0) ∙ ap string (n .value); after = sym (z .1) ∙ n .after ∙ over 4 (getD bs 0 0) bs; some = omega arith; inside = omega (arith, n .inside) }
+    let z = found-is (byteStringOf (w .0)) p (w .1) rest (w .3) in
+    record { is = sym (z .0) ∙ ap byteStringOf (n .value); after = sym (z .1) ∙ n .after ∙ over 4 (getD bs 0 0) bs; some = omega arith; inside = omega (arith, n .inside) }
 front (suc (suc (suc (suc (suc zero)))) ∷ bs) p rest e = let n = front-list bs p rest e in record { is = n .value; after = n .after; some = omega arith; inside = omega (arith, n .inside) }
 front (suc (suc (suc (suc (suc (suc zero))))) ∷ bs) p rest e = let n = front-ctor bs p rest e in record { is = n .value; after = n .after; some = omega arith; inside = omega (arith, n .inside) }
 front (suc (suc (suc (suc (suc (suc (suc zero)))))) ∷ bs) p rest e = let z = found-is pairOf p bs rest e in record { is = sym (z .0); after = sym (z .1); some = omega arith; inside = omega arith }

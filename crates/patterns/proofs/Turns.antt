@@ -10,8 +10,10 @@ use lib.ListN.{length, getD, take, drop, set, replicate, length-append, length-t
 use lib.Seq.{sets, drop-cons, take-take, getD-take, getD-drop}
 use borrow.Author.Tests.{le-leb, lt-leb, eq-eqb, ne-eqb}
 use Rattle.scope.specs.Lists.{bit}
-use Rattle.scope.specs.Types.{Table, typeAt, kind, ctors, fieldsAt, arity}
-use Rattle.scope.specs.Patterns.{Node, wild, con, inner, Item, put, pat, cells, opened}
+use Rattle.scope.specs.Types.{Table, typeAt, kind}
+use Rattle.scope.specs.Constructors.{ctors, fieldsAt, arity}
+use Rattle.scope.specs.Patterns.{inner}
+use Rattle.scope.specs.Simplify.{Node, wild, con, Item, put, pat, elementItems, opened}
 use Rattle.layout.specs.Types.{Shape, Fielded}
 use Rattle.layout.specs.Nodes.{nodeOf, rowOf, LiteralStands, Literals, done, also, placesIn}
 use Rattle.nodes.specs.Keys.{low16, keyOf}
@@ -73,11 +75,11 @@ module _ (kinds counts arities starts fields : List ℕ) (table : Table) (used :
 
   -- a list's elements and tail as an open pattern
   cells-items : (bytes : List ℕ) (k start : ℕ) (tail : Bool) → kind (typeAt table t) ≡ 3 → start ≡ getD starts (32 * t) 0
-      → itemsOf bytes fields (opening (markOf t tail) k start) ≡ cells t (getD (fieldsAt table t 0) 0 0) k tail
+      → itemsOf bytes fields (opening (markOf t tail) k start) ≡ elementItems t (getD (fieldsAt table t 0) 0 0) k tail
   unfolding itemsOf listItems
   cells-items bytes k start tail h e = go tail
     where
-      go : (b : Bool) → itemsOf bytes fields (opening (markOf t b) k start) ≡ cells t (getD (fieldsAt table t 0) 0 0) k b
+      go : (b : Bool) → itemsOf bytes fields (opening (markOf t b) k start) ≡ elementItems t (getD (fieldsAt table t 0) 0 0) k b
       go true =
           let ty : (32768 + 2 * t + 1 - 32768) / 2 ≡ t = omega arith in
           let od : (32768 + 2 * t + 1) % 2 ≡ 1 = omega arith in
@@ -219,7 +221,7 @@ module _ (bytes kinds counts arities starts fields : List ℕ) (at t depth place
         (rw (o′, due-cons (opening (markOf t tail) k start) (opens stack depth), cells-wanted t k tail, n .0) refl)
         (λ table used shape fielded here.
         let m = meaning (Cells k tail) e table shape here in
-        (cells t (getD (fieldsAt table t 0) 0 0) k tail, sym (m .0), ap (λ (is : List Item). is ++ pending bytes fields (opens stack depth)) (sym (cells-items kinds counts arities starts fields table used shape fielded t here short bytes k start tail (m .1) f)) ∙ sym (pending-cons bytes fields (opening (markOf t tail) k start) (opens stack depth)) ∙ ap (λ (x : Open). pending bytes fields (x ∷ opens stack depth)) (sym o′)))
+        (elementItems t (getD (fieldsAt table t 0) 0 0) k tail, sym (m .0), ap (λ (is : List Item). is ++ pending bytes fields (opens stack depth)) (sym (cells-items kinds counts arities starts fields table used shape fielded t here short bytes k start tail (m .1) f)) ∙ sym (pending-cons bytes fields (opening (markOf t tail) k start) (opens stack depth)) ∙ ap (λ (x : Open). pending bytes fields (x ∷ opens stack depth)) (sym o′)))
         s
 
     pub turn-args : (c k w start node from : ℕ) (o : Open) (nodes₁ stack′ nodes′ : List ℕ) (r : Next) → Args c k w ≡ suitAt bytes at kinds counts arities t → start ≡ getD starts (32 * t + c) 0

@@ -6,9 +6,12 @@ use mathlib.Core.Option.{Option, none, some}
 use Prim.Native.Nat.{ℕ, _+_, _*_, _≤_, _<_}
 use lib.ListN.{length, take, drop}
 use lib.Seq.{sets}
-use Rattle.scope.specs.Types.{Table, refsGood}
-use Rattle.scope.specs.Patterns.{Row, Raw, inner, Item, put, opened, simplify}
+use Rattle.scope.specs.Types.{Table}
+use Rattle.scope.specs.Finite.{refsGood}
+use Rattle.scope.specs.Patterns.{Raw, inner}
+use Rattle.scope.specs.Simplify.{Row, Item, put, opened, simplify}
 use Rattle.scope.specs.Frames.{found, patterns}
+use Rattle.scope.specs.Blocks.{Step, ok, refuse}
 use Rattle.layout.specs.Types.{Shape, Fielded}
 use Rattle.layout.specs.Nodes.{rowOf, leftOf, Literals, placesIn, StandsAt}
 use Rattle.suits.specs.Raws.{rawAt, sizeAt, ownPlace}
@@ -73,10 +76,15 @@ pub record Turned (bytes kinds counts arities starts fields : List ℕ) (at t de
   pub became : (table : Table) (used : ℕ) → Shape kinds counts arities table → Fielded starts fields used table → t < length table
       → Became (opened table t (rawAt bytes at)) (pending bytes fields (opens stack depth)) bytes fields new stack′ r
 
--- the answer for what a definition of `simplify` gives: the row was put, and its length counted; or it does not suit
+-- document 01's number and values for each case: the count of the row's nodes; 8
+abbrev pub saidSimplified : Simplified → Step ℕ
+saidSimplified (Kept count) = ok count
+saidSimplified Unsuited = refuse 8
+
+-- the answer for what a definition of `simplify` gives: the row was put, and its length counted; or 8
 abbrev pub Answers : List ℕ → List ℕ → Option Row → Simplified → Type 0
-Answers bytes new none r = r ≡ Unsuited
-Answers bytes new (some row) r = (r ≡ Kept (length row)) × (rowOf bytes new ≡ row)
+Answers bytes new none r = saidSimplified r ≡ refuse 8
+Answers bytes new (some row) r = (saidSimplified r ≡ ok (length row)) × (rowOf bytes new ≡ row)
 
 -- the nodes of the pattern from a place on, put from `used` on
 pub record Reading (bytes : List ℕ) (from : ℕ) (kinds counts arities starts fields : List ℕ) (subject used : ℕ) (nodes nodes′ : List ℕ) (r : Simplified) : Type 0 where

@@ -11,11 +11,13 @@ use lib.ListN.{length, getD, take, drop, set, replicate, length-append, length-s
 use lib.Seq.{sets, length-sets, getD-set-same, getD-set-other}
 use lib.Dec.{leb, eqb}
 use Rattle.scope.proofs.Tests.{clash, both}
-use Rattle.scope.specs.Types.{Ty, integer, byteString, opaque, list, tuple, pair, dat, Ctor, Table, kind, isRef, refsGood, allFinite, lastDeclared, addCtor}
-use Rattle.scope.specs.Patterns.{Row, Matrix, Raw, simplify}
+use Rattle.scope.specs.Types.{Ty, integer, byteString, opaque, list, tuple, pair, dat, Ctor, Table, kind, lastDeclared, addCtor}
+use Rattle.scope.specs.Finite.{isRef, refsGood, allFinite}
+use Rattle.scope.specs.Patterns.{Raw}
+use Rattle.scope.specs.Simplify.{Row, Matrix, simplify}
 use Rattle.scope.specs.Frames.{found, typeFrame, constructorFrame, patterns, typeOf, constructorOf, subjectOf, clauseOf, end}
 use Rattle.scope.specs.Blocks as scope
-use Rattle.scope.specs.Blocks.{Block, types, constructors, clauses, closed, ok, _>>=_, need, suited, nodesIn, isFresh, isSound, afterType, withTable, withRow, enter}
+use Rattle.scope.specs.Blocks.{Block, types, constructors, clauses, closed, ok, refuse, _>>=_, need, suited, nodesIn, isFresh, isSound, afterType, withTable, withRow, enter}
 use Rattle.table.proofs.FrameBytes.{type-read}
 use Rattle.layout.specs.Places.{labelled, reads}
 use Rattle.table.specs.Build.{EndsInData, low, typeArities, typeFields, WithType, EntersType, flagAt, arityIn, isBare, fieldPlaces, labelsWith, WithCtor}
@@ -32,8 +34,7 @@ use Rattle.patterns.proofs.Rows.{nodes-closed, left-closed, row-stands, row-kep
 use Rattle.order.specs.declared.State.{State}
 use Rattle.order.specs.Phases.{phaseOf}
 use Rattle.reading.specs.declared.line.Step.{Step}
-use Rattle.reading.specs.declared.line.Step.the-variants.{On, Refused}
-use Rattle.reading.specs.Said.{Held, held, Sized, InPhase, Rows, Says, Stepped, goes, stops}
+use Rattle.reading.specs.Said.{Held, held, Sized, InPhase, Rows, Says, saidStep, Stepped, goes, stops}
 use Rattle.reading.specs.Enters.{EntersCtor, stale, fresh, EntersSubject, unsound, sound, EntersClause, unsuited, over, row, Ended}
 
 -- no clause yet
@@ -45,7 +46,7 @@ no-rows bytes nodes left rows count used table a b =
 abbrev phaseFor : ℕ → ℕ
 phaseFor k = cond (eqb k 6) 1 0
 
-type-phase : (ty : Ty) (n : ℕ) → n ≡ phaseFor (kind ty) → (table : Table) → (phaseOf n ≡ afterType ty) × InPhase (afterType ty) (withTable (afterType ty) (table ++ ty ∷ []) .block)
+type-phase : (ty : Ty) (n : ℕ) → n ≡ phaseFor (kind ty) → (table : Table) → (phaseOf n ≡ some (afterType ty)) × InPhase (afterType ty) (withTable (afterType ty) (table ++ ty ∷ []) .block)
 type-phase integer n e table = (ap phaseOf e, tt)
 type-phase byteString n e table = (ap phaseOf e, tt)
 type-phase opaque n e table = (ap phaseOf e, tt)
@@ -63,23 +64,23 @@ last-row [] r = refl
 last-row (q ∷ m) r = last-row m r
 
 -- 8 and 9, by what `simplify` gives
-unsuited-steps : {h : Held} (bytes new : List ℕ) (f : Row → scope.Step scope.State) (o : Option Row) → Answers bytes new o Unsuited → Stepped h (Refused 8) (suited o >>= f)
+unsuited-steps : {h : Held} (bytes new : List ℕ) (f : Row → scope.Step scope.State) (o : Option Row) → Answers bytes new o Unsuited → Stepped h (refuse 8) (suited o >>= f)
 unsuited-steps bytes new f none a = stops 8
-unsuited-steps bytes new f (some r) a = let e : Unsuited ≡ Kept (length r) = a .0 in clash (cc)
+unsuited-steps bytes new f (some r) a = let e : refuse 8 ≡ ok (length r) = a .0 in clash (cc)
 
-over-steps : {h : Held} (bytes new : List ℕ) (n : ℕ) (b : Block) (o : Option Row) → Answers bytes new o (Kept n) → leb (nodesIn (b .rows) + n) 4096 ≡ false → Stepped h (Refused 9) (suited o >>= (λ r. need 9 (leb (nodesIn (b .rows) + length r) 4096) >>= (λ _. ok (withRow b r))))
-over-steps bytes new n b none a l = let e : Kept n ≡ Unsuited = a in clash (cc)
+over-steps : {h : Held} (bytes new : List ℕ) (n : ℕ) (b : Block) (o : Option Row) → Answers bytes new o (Kept n) → leb (nodesIn (b .rows) + n) 4096 ≡ false → Stepped h (refuse 9) (suited o >>= (λ r. need 9 (leb (nodesIn (b .rows) + length r) 4096) >>= (λ _. ok (withRow b r))))
+over-steps bytes new n b none a l = let e : ok n ≡ refuse 8 = a in clash (cc)
 over-steps bytes new n b (some r) a l =
-    let e : Kept n ≡ Kept (length r) = a .0 in
+    let e : ok n ≡ ok (length r) = a .0 in
     let i : n ≡ length r = cc in
     let f : leb (nodesIn (b .rows) + length r) 4096 ≡ false = ap (λ (k : ℕ). leb (nodesIn (b .rows) + k) 4096) (sym i) ∙ l in
     rw f (stops 9)
 
 row-steps : {h : Held} (bytes new : List ℕ) (n : ℕ) (b : Block) (o : Option Row) (s : State) → Answers bytes new o (Kept n) → leb (nodesIn (b .rows) + n) 4096 ≡ true → ((r : Row) → o ≡ some r → n ≡ length r → Says h s (withRow b r))
-    → Stepped h (On s) (suited o >>= (λ r. need 9 (leb (nodesIn (b .rows) + length r) 4096) >>= (λ _. ok (withRow b r))))
-row-steps bytes new n b none s a l k = let e : Kept n ≡ Unsuited = a in clash (cc)
+    → Stepped h (ok s) (suited o >>= (λ r. need 9 (leb (nodesIn (b .rows) + length r) 4096) >>= (λ _. ok (withRow b r))))
+row-steps bytes new n b none s a l k = let e : ok n ≡ refuse 8 = a in clash (cc)
 row-steps bytes new n b (some r) s a l k =
-    let e : Kept n ≡ Kept (length r) = a .0 in
+    let e : ok n ≡ ok (length r) = a .0 in
     let i : n ≡ length r = cc in
     let f : leb (nodesIn (b .rows) + length r) 4096 ≡ true = ap (λ (k : ℕ). leb (nodesIn (b .rows) + k) 4096) (sym i) ∙ l in
     rw f (goes (k r refl i))
@@ -177,7 +178,7 @@ module _ {h : Held} {s : State} {σ : scope.State} (w : Says h s σ) where
 
   -- 01 type
   pub type-steps : (at : ℕ) (r : State) {kinds′ counts′ arities′ starts′ fields′ : List ℕ} → EntersType (h .bytes) at s (h .kinds) (h .counts) (h .arities) (h .starts) (h .fields) kinds′ counts′ arities′ starts′ fields′ r → s .types < 64 → (ty : Ty) → typeFrame (drop at (h .bytes)) ≡ found ty []
-      → Stepped (held (h .bytes) kinds′ counts′ arities′ starts′ (h .names) fields′ (h .labels) (h .nodes) (h .left) (h .rows)) (On r) (enter (σ .block) (typeOf ty))
+      → Stepped (held (h .bytes) kinds′ counts′ arities′ starts′ (h .names) fields′ (h .labels) (h .nodes) (h .left) (h .rows)) (ok r) (enter (σ .block) (typeOf ty))
   unfolding enter
   type-steps at r {kinds′} {counts′} {arities′} {starts′} {fields′} e free ty frame =
       let n = e .numbers in
@@ -198,7 +199,7 @@ module _ {h : Held} {s : State} {σ : scope.State} (w : Says h s σ) where
 
   -- 02 constructor
   pub ctor-steps : (at : ℕ) (r : Step) {counts′ arities′ starts′ names′ fields′ labels′ : List ℕ} → EntersCtor (h .bytes) at s (h .counts) (h .arities) (h .starts) (h .names) (h .fields) (h .labels) counts′ arities′ starts′ names′ fields′ labels′ r → EndsInData (σ .block .table) → s .ctors < 256 → length (lastDeclared (σ .block .table)) < 32 → 0 < at → length (h .bytes) ≤ 65536
-      → (c : Ctor) → constructorFrame (drop at (h .bytes)) ≡ found c [] → Stepped (held (h .bytes) (h .kinds) counts′ arities′ starts′ names′ fields′ labels′ (h .nodes) (h .left) (h .rows)) r (enter (σ .block) (constructorOf c))
+      → (c : Ctor) → constructorFrame (drop at (h .bytes)) ≡ found c [] → Stepped (held (h .bytes) (h .kinds) counts′ arities′ starts′ names′ fields′ labels′ (h .nodes) (h .left) (h .rows)) (saidStep r) (enter (σ .block) (constructorOf c))
   unfolding enter
   ctor-steps at r (stale f) d more free past short c frame =
       let u : isFresh (σ .block .table) c ≡ false = sym (fresh-means (w .holds) d at c [] frame) ∙ f in
@@ -219,7 +220,7 @@ module _ {h : Held} {s : State} {σ : scope.State} (w : Says h s σ) where
       rw u (goes says)
 
   -- 03 subject
-  pub subject-steps : (at : ℕ) (r : Step) → EntersSubject (h .bytes) at s (h .kinds) (h .counts) (h .arities) (h .starts) (h .fields) r → (t : ℕ) → t ≡ getD (h .bytes) at 0 → Stepped h r (enter (σ .block) (subjectOf t))
+  pub subject-steps : (at : ℕ) (r : Step) → EntersSubject (h .bytes) at s (h .kinds) (h .counts) (h .arities) (h .starts) (h .fields) r → (t : ℕ) → t ≡ getD (h .bytes) at 0 → Stepped h (saidStep r) (enter (σ .block) (subjectOf t))
   unfolding enter
   subject-steps at r (unsound f) t e =
       let u : isSound (σ .block .table) t ≡ false = sym (sound-means (w .holds) t) ∙ ap (isSoundIn (h .kinds) (h .counts) (h .arities) (h .starts) (h .fields) (s .fields) (s .types)) e ∙ f in
@@ -279,7 +280,7 @@ module _ {h : Held} {s : State} {σ : scope.State} (w : Says h s σ) where
           }
 
       pub clause-steps : (r : Step) {nodes′ left′ rows′ : List ℕ} → EntersClause (h .bytes) at s (h .kinds) (h .counts) (h .arities) (h .starts) (h .fields) (h .nodes) (h .left) (h .rows) nodes′ left′ rows′ r → s .clauses < 64
-          → Stepped (held (h .bytes) (h .kinds) (h .counts) (h .arities) (h .starts) (h .names) (h .fields) (h .labels) nodes′ left′ rows′) r (enter (σ .block) (clauseOf ps))
+          → Stepped (held (h .bytes) (h .kinds) (h .counts) (h .arities) (h .starts) (h .names) (h .fields) (h .labels) nodes′ left′ rows′) (saidStep r) (enter (σ .block) (clauseOf ps))
       unfolding enter
       clause-steps r (unsuited {nodes₁ = nodes₁} {left₁ = left₁} q) free =
           let g : Simplifies (h .bytes) at (h .kinds) (h .counts) (h .arities) (h .starts) (h .fields) (b .subject) (s .used) (h .nodes) (h .left) nodes₁ left₁ Unsuited = subst (λ (t : ℕ). Simplifies (h .bytes) at (h .kinds) (h .counts) (h .arities) (h .starts) (h .fields) t (s .used) (h .nodes) (h .left) nodes₁ left₁ Unsuited) (w .subjectIs) q in
@@ -302,7 +303,7 @@ module _ {h : Held} {s : State} {σ : scope.State} (w : Says h s σ) where
           })
 
     -- 05 end
-    pub end-steps : (r : State) → Ended s r → Stepped h (On r) (enter (σ .block) end)
+    pub end-steps : (r : State) → Ended s r → Stepped h (ok r) (enter (σ .block) end)
     unfolding enter
     end-steps r m =
         let says : Says h r (record { phase = closed; block = σ .block }) =

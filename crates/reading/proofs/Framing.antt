@@ -2,6 +2,7 @@
 use mathlib.Core.Path.{_≡_, refl, sym, ap, ap₂, _∙_}
 use mathlib.Core.Bool.{Bool, true, false, _&&_}
 use mathlib.Core.List.{List, [], _∷_}
+use mathlib.Core.Option.{Option}
 use Prim.Native.Nat.{ℕ, zero, suc, _-_, _<_}
 use native.Mathlib.Omega.{arith}
 use lib.ListN.{length, getD, drop}
@@ -16,7 +17,7 @@ use Rattle.scope.specs.Blocks.{Block, Phase, types, constructors, clauses, clos
 use Rattle.table.specs.Build.{EndsInData}
 use Rattle.table.proofs.CtorMeans.{last-type, last-declared}
 use Rattle.order.specs.declared.State.{State}
-use Rattle.order.specs.Phases.{standsIn, roomIn}
+use Rattle.order.specs.Phases.{standingAt, standsIn, roomIn}
 use Rattle.frames.specs.Checked.{checked}
 use Rattle.reading.specs.Said.{Held, InPhase, Says}
 
@@ -109,7 +110,7 @@ chain true b false c c′ y g e h = rw e
 module _ {h : Held} {s : State} {σ : scope.State} (w : Says h s σ) where
   pub stands-is : (k : ℕ) → stands σ k ≡ standsIn (s .phase) k
   unfolding stands standsIn
-  stands-is k = ap (λ (p : Phase). any (eqb k) (standing p)) (sym (w .phaseIs))
+  stands-is k = ap (λ (p : Option Phase). any (eqb k) (standingAt p)) (sym (w .phaseIs))
 
   pub types-are : s .types ≡ length (σ .block .table)
   types-are = w .holds .types-are
@@ -117,15 +118,15 @@ module _ {h : Held} {s : State} {σ : scope.State} (w : Says h s σ) where
   -- the data type just above a constructor
   pub above : standsIn (s .phase) 2 ≡ true → EndsInData (σ .block .table)
   unfolding standsIn
-  above a = at-constructor (σ .phase) (σ .block) (ap (λ (p : Phase). any (eqb 2) (standing p)) (sym (w .phaseIs)) ∙ a) (w .inPhase)
+  above a = at-constructor (σ .phase) (σ .block) (ap (λ (p : Option Phase). any (eqb 2) (standingAt p)) (sym (w .phaseIs)) ∙ a) (w .inPhase)
 
   pub sound-clause : standsIn (s .phase) 4 ≡ true → isSound (σ .block .table) (σ .block .subject) ≡ true
   unfolding standsIn
-  sound-clause a = at-clause (σ .phase) (σ .block) (ap (λ (p : Phase). any (eqb 4) (standing p)) (sym (w .phaseIs)) ∙ a) (w .inPhase)
+  sound-clause a = at-clause (σ .phase) (σ .block) (ap (λ (p : Option Phase). any (eqb 4) (standingAt p)) (sym (w .phaseIs)) ∙ a) (w .inPhase)
 
   pub sound-end : standsIn (s .phase) 5 ≡ true → isSound (σ .block .table) (σ .block .subject) ≡ true
   unfolding standsIn
-  sound-end a = at-end (σ .phase) (σ .block) (ap (λ (p : Phase). any (eqb 5) (standing p)) (sym (w .phaseIs)) ∙ a) (w .inPhase)
+  sound-end a = at-end (σ .phase) (σ .block) (ap (λ (p : Option Phase). any (eqb 5) (standingAt p)) (sym (w .phaseIs)) ∙ a) (w .inPhase)
 
   pub some-type : standsIn (s .phase) 2 ≡ true → 0 < s .types
   some-type a = omega (arith, last-type (w .holds) (above a))

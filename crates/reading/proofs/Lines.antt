@@ -1,6 +1,7 @@
 -- The lines of a file, one after another: what is said so far, and that what is left of the file decides as the definitions do.
 use mathlib.Core.Path.{_≡_, refl, sym, ap, subst, _∙_}
 use mathlib.Core.Bool.{Bool, true, false, cond, _&&_}
+use mathlib.Core.Option.{Option, some}
 use mathlib.Core.List.{List, [], _∷_, _++_}
 use Prim.Native.Nat.{ℕ, zero, suc, _+_, _*_, _-_, _%_, _≤_, _<_, _^_}
 use native.Mathlib.Omega.{arith}
@@ -13,11 +14,11 @@ use Rattle.meaning.proofs.Parsing.{block-good}
 use Rattle.scope.specs.Lists.{all}
 use Rattle.scope.specs.Lines.{Line, ended, lines, isHex, unhex, isLine}
 use Rattle.scope.specs.Types.{Table}
-use Rattle.scope.specs.Patterns.{Matrix}
+use Rattle.scope.specs.Simplify.{Matrix}
 use Rattle.scope.specs.Blocks as scope
-use Rattle.scope.specs.Blocks.{Phase, types, constructors, clauses, closed, start, ok, refuse, goOn, framed, line, parsed, faulty, finish, parse, blockOf}
+use Rattle.scope.specs.Blocks.{Phase, types, constructors, clauses, closed, start, ok, refuse, goOn, framed, lineStep, parsed, faulty, finish, parse, blockOf}
 use Rattle.hex.specs.declared.Line as hex
-use Rattle.hex.specs.Digits.{TakenLine, RefusedLine, Lined}
+use Rattle.hex.specs.Digits.{saidLine, TakenLine, RefusedLine, Lined}
 use Rattle.table.proofs.Held.{take-through}
 use Rattle.table.proofs.Carried.{empty-holds, more-holds}
 use Rattle.patterns.specs.Rows.{RowAt}
@@ -27,7 +28,7 @@ use Rattle.order.specs.Phases.{phaseOf, isClosed, closesIn, Numbers}
 use Rattle.reading.specs.declared.line.Step.{Step}
 use Rattle.reading.specs.declared.line.Step.the-variants.{On, Refused}
 use Rattle.reading.specs.declared.file.Parsed as answers
-use Rattle.reading.specs.Said.{Held, held, Sized, Rows, Says, Stepped, goes, stops}
+use Rattle.reading.specs.Said.{Held, held, Sized, Rows, Says, saidStep, Stepped, goes, stops}
 use Rattle.reading.specs.Files.{HoldsBlock, fileOf, endOf, LinesAs, saysBlock, saysFault}
 use Rattle.reading.proofs.Entering.{no-rows}
 use Rattle.reading.proofs.Whole.{file-lines}
@@ -41,12 +42,12 @@ resized : {h : Held} → Sized h → (bytes : List ℕ) → Sized (grown h bytes
 resized z bytes = record { kindsLong = z .kindsLong; countsLong = z .countsLong; aritiesLong = z .aritiesLong; startsLong = z .startsLong; namesLong = z .namesLong; fieldsLong = z .fieldsLong; labelsLong = z .labelsLong; nodesLong = z .nodesLong; leftLong = z .leftLong; rowsLong = z .rowsLong }
 
 -- a line that was read, by its answer
-module _ (file : List ℕ) (from : ℕ) (before : List ℕ) (at : ℕ) (l : hex.Line) (after : List ℕ) (x : Lined file from before at l after) where
+module _ (file : List ℕ) (from : ℕ) (before : List ℕ) (at : ℕ) (l : hex.Line) (after : List ℕ) (x : Lined file from before at (saidLine l) after) where
   pub taken : (next to : ℕ) → l ≡ hex.the-variants.Good next to → TakenLine file from before at next to after
-  taken next to e = subst (λ (m : hex.Line). Lined file from before at m after) e x
+  taken next to e = subst (λ (m : hex.Line). Lined file from before at (saidLine m) after) e x
 
-  pub not-taken : l ≡ hex.the-variants.Bad → RefusedLine file from before after
-  not-taken e = subst (λ (m : hex.Line). Lined file from before at m after) e x
+  pub not-taken : l ≡ hex.the-variants.Bad → RefusedLine file from before 3 after
+  not-taken e = subst (λ (m : hex.Line). Lined file from before at (saidLine m) after) e x
 
 rows-grown : {bytes nodes left rows : List ℕ} {count used : ℕ} {table : Table} {m : Matrix} (more : List ℕ) → Rows bytes nodes left rows count used table m → Rows (bytes ++ more) nodes left rows count used table m
 rows-grown {bytes} more o = record { counted = o .counted; packed = o .packed; few = o .few; short = o .short; each = λ i l. row-grown bytes more (o .each i l); before = o .before }
@@ -74,12 +75,12 @@ some-byte (d ∷ f ∷ ds) e = omega arith
 
 -- a line of hexadecimal is its bytes' step
 parse-next : (k : ℕ) (σ : scope.State) (ds : List ℕ) (rest : List Line) → isLine (ended ds) ≡ true → parse k σ (ended ds ∷ rest) ≡ goOn k (framed σ (unhex ds)) (λ σ′. parse (suc k) σ′ rest)
-unfolding parse line
+unfolding parse lineStep
 parse-next k σ ds rest e = rw e
 
 -- 3
 parse-bad : (k : ℕ) (σ : scope.State) (l : Line) (rest : List Line) → isLine l ≡ false → parse k σ (l ∷ rest) ≡ faulty 3 k
-unfolding parse line
+unfolding parse lineStep
 parse-bad k σ l rest e = rw e
 
 -- up to the place i of the file, before line k: what is said, and what is left decides
@@ -117,11 +118,11 @@ within-start file l s bytes kinds counts arities starts names fields labels node
     }
 
 -- the answer to a line, taken apart
-gone : {h : Held} {r : Step} {x : scope.Step scope.State} → Stepped h r x → (s : State) → r ≡ On s → (σ : scope.State) × ((x ≡ ok σ) × Says h s σ)
+gone : {h : Held} {r : scope.Step State} {x : scope.Step scope.State} → Stepped h r x → (s : State) → r ≡ ok s → (σ : scope.State) × ((x ≡ ok σ) × Says h s σ)
 gone {h} (goes {s = s′} {σ = σ} w) s e = let i : s′ ≡ s = cc in (σ, (refl, subst (λ (t : State). Says h t σ) i w))
 gone (stops n) s e = clash (cc)
 
-stopped : {h : Held} {r : Step} {x : scope.Step scope.State} → Stepped h r x → (n : ℕ) → r ≡ Refused n → x ≡ refuse n
+stopped : {h : Held} {r : scope.Step State} {x : scope.Step scope.State} → Stepped h r x → (n : ℕ) → r ≡ refuse n → x ≡ refuse n
 stopped (goes w) n e = clash (cc)
 stopped (stops m) n e = let i : m ≡ n = cc in ap refuse i
 
@@ -131,7 +132,7 @@ module _ {file : List ℕ} {k i at : ℕ} {s : State} {h : Held} (v : Within fil
   next-line = omega (arith, v .numbered, v .inside, v .short)
 
   -- 3
-  pub line-bad : {before after : List ℕ} → RefusedLine file i before after → fileOf file ≡ faulty 3 k
+  pub line-bad : {before after : List ℕ} → RefusedLine file i before 3 after → fileOf file ≡ faulty 3 k
   line-bad t = v .onward ∙ ap (parse k (v .state)) (t .begins) ∙ parse-bad k (v .state) (t .line) (t .others) (t .bad)
 
   module _ (before after : List ℕ) (next to : ℕ) (t : TakenLine file i before at next to after) (so-far : h .bytes ≡ take at before) (fits : length file ≤ 2 * length before) where
@@ -169,16 +170,16 @@ module _ {file : List ℕ} {k i at : ℕ} {s : State} {h : Held} (v : Within fil
     pub line-says : Says (grown h (take to after)) s (v .state)
     line-says = rw bytes-are (says-grown line-bytes (v .says))
 
-    module _ (r : Step) {h′ : Held} (x : Stepped h′ r (framed (v .state) (drop at (take to after)))) where
+    module _ (r : Step) {h′ : Held} (x : Stepped h′ (saidStep r) (framed (v .state) (drop at (take to after)))) where
       goes-on : fileOf file ≡ goOn k (framed (v .state) (drop at (take to after))) (λ σ′. parse (suc k) σ′ (lines (drop next file)))
       goes-on = v .onward ∙ ap (parse k (v .state)) (t .begins) ∙ parse-next k (v .state) (t .digitsOf) (lines (drop next file)) (t .good) ∙ ap (λ (bs : List ℕ). goOn k (framed (v .state) bs) (λ σ′. parse (suc k) σ′ (lines (drop next file)))) (sym line-is)
 
       pub line-stops : (n : ℕ) → r ≡ Refused n → fileOf file ≡ faulty n k
-      line-stops n e = goes-on ∙ ap (λ (y : scope.Step scope.State). goOn k y (λ σ′. parse (suc k) σ′ (lines (drop next file)))) (stopped x n e)
+      line-stops n e = goes-on ∙ ap (λ (y : scope.Step scope.State). goOn k y (λ σ′. parse (suc k) σ′ (lines (drop next file)))) (stopped x n (ap saidStep e))
 
       pub line-goes : (s′ : State) → r ≡ On s′ → Within file (k + 1) next to s′ h′
       line-goes s′ e =
-          let g = gone x s′ e in
+          let g = gone x s′ (ap saidStep e) in
           record {
             state = g .0;
             says = g .1 .1;
@@ -197,9 +198,9 @@ module _ {file : List ℕ} {k i at : ℕ} {s : State} {h : Held} (v : Within fil
 
     by-phase : fileOf file ≡ cond (closesIn (s .phase)) (parsed (v .state .block)) (faulty 5 k)
     unfolding closesIn
-    by-phase = at-end ∙ at-phase (v .state .phase) ∙ ap (λ (p : Phase). cond (isClosed p) (parsed (v .state .block)) (faulty 5 k)) (sym (v .says .phaseIs))
+    by-phase = at-end ∙ at-phase (v .state .phase) ∙ ap (λ (p : Option Phase). cond (isClosed p) (parsed (v .state .block)) (faulty 5 k)) (sym (v .says .phaseIs))
       where
-        at-phase : (p : Phase) → finish k (record { phase = p; block = v .state .block }) ≡ cond (isClosed p) (parsed (v .state .block)) (faulty 5 k)
+        at-phase : (p : Phase) → finish k (record { phase = p; block = v .state .block }) ≡ cond (isClosed (some p)) (parsed (v .state .block)) (faulty 5 k)
         at-phase types = refl
         at-phase constructors = refl
         at-phase clauses = refl

@@ -6,7 +6,7 @@ use native.Mathlib.Omega.{arith}
 use lib.ListN.{length, getD, take, drop, length-drop}
 use lib.Seq.{getD-take, getD-drop, length-take-le}
 use Rattle.scope.specs.Types.{Table}
-use Rattle.scope.specs.Patterns.{Row}
+use Rattle.scope.specs.Simplify.{Row}
 use Rattle.scope.specs.Blocks as scope
 use Rattle.layout.specs.Nodes.{LiteralStands, Literals, done, also}
 use Rattle.patterns.specs.Rows.{RowAt}

@@ -13,7 +13,7 @@ use Rattle.order.specs.Phases.{closesIn}
 use Rattle.reading.specs.declared.file.Parsed.{Parsed}
 use Rattle.reading.specs.declared.file.Parsed.the-variants.{Block, Faulty}
 use Rattle.reading.specs.Said.{Held, held, Sized}
-use Rattle.reading.specs.Files.{Blank, fileOf, endOf, LinesAs, saysBlock, saysFault, ReadAs, aBlock, aFault}
+use Rattle.reading.specs.Files.{fileOf, endOf, LinesAs, saysBlock, saysFault, saidParsed, ReadAs, aBlock, aFault}
 
 -- 2
 pub file-long : (file : List ℕ) → 49152 < length file → fileOf file ≡ faulty 2 0
@@ -42,12 +42,12 @@ pub relabelled : {h : Held} → Sized h → Sized (held (h .bytes) (h .kinds) (h
 relabelled z = record { kindsLong = z .kindsLong; countsLong = z .countsLong; aritiesLong = z .aritiesLong; startsLong = z .startsLong; namesLong = z .namesLong; fieldsLong = z .fieldsLong; labelsLong = length-replicate {A = ℕ} 5120 0; nodesLong = z .nodesLong; leftLong = z .leftLong; rowsLong = z .rowsLong }
 
 -- the answer, by what the lines answered: a block's slices are as they were, a refusal's are blank
-pub block-read : {file : List ℕ} {h : Held} {r : Parsed} (subject clauses types : ℕ) → r ≡ Block subject clauses types → LinesAs file h r → ReadAs file h r
+pub block-read : {file : List ℕ} {h : Held} {r : Parsed} (subject clauses types : ℕ) → r ≡ Block subject clauses types → LinesAs file h r → ReadAs file h (saidParsed r)
 block-read subject clauses types e (saysBlock b is x) = aBlock b is x
 block-read subject clauses types e (saysFault f) = clash (cc)
 
 pub fault-read : {file : List ℕ} {h : Held} {r : Parsed} {arities starts names : List ℕ} (n k : ℕ) → r ≡ Faulty n k → LinesAs file h r → (arities ≡ replicate 2048 0) × ((starts ≡ replicate 2048 0) × (names ≡ replicate 2048 0))
-    → ReadAs file (held (replicate 24576 0) (replicate 64 0) (replicate 64 0) arities starts names (replicate 5120 0) (replicate 5120 0) (replicate 4160 0) (replicate 4160 0) (replicate 64 0)) r
+    → ReadAs file (held (replicate 24576 0) (replicate 64 0) (replicate 64 0) arities starts names (replicate 5120 0) (replicate 5120 0) (replicate 4160 0) (replicate 4160 0) (replicate 64 0)) (saidParsed r)
 fault-read n k e (saysBlock b is x) c = clash (cc)
 fault-read n k e (saysFault is) c =
     aFault is (record {

@@ -7,9 +7,9 @@ use lib.ListN.{length, getD, take, replicate}
 use lib.Dec.{ltb}
 use Rattle.scope.specs.Limits.{maxFile}
 use Rattle.scope.specs.Lines.{lines}
-use Rattle.scope.specs.Patterns.{TypedRows}
+use Rattle.laws.specs.Typed.{TypedRows}
 use Rattle.scope.specs.Blocks as scope
-use Rattle.scope.specs.Blocks.{isSound, parsed, faulty, blockOf}
+use Rattle.scope.specs.Blocks.{ok, refuse, isSound, parsed, faulty, blockOf}
 use Rattle.layout.specs.Types.{Holds}
 use Rattle.layout.specs.Nodes.{HoldsRows}
 use Rattle.patterns.specs.Rows.{RowAt}
@@ -60,7 +60,13 @@ pub data LinesAs (file : List ℕ) (h : Held) : Parsed → Type 0 where
   saysBlock : {subject clauses types : ℕ} (b : scope.Block) → fileOf file ≡ parsed b → HoldsBlock h subject clauses types b → LinesAs file h (Block subject clauses types)
   saysFault : {n k : ℕ} → fileOf file ≡ faulty n k → LinesAs file h (Faulty n k)
 
+-- document 01's number, values and line for each case: the subject, how many clauses and types; the refusal's number, and its line
+abbrev pub saidParsed : Parsed → scope.Step (ℕ × (ℕ × ℕ)) × ℕ
+saidParsed (Block subject clauses types) = (ok (subject, (clauses, types)), 0)
+saidParsed (Faulty n k) = (refuse n, k)
+
 -- the block that the file says, in the slices, or the refusal and its line, and the slices are blank
-pub data ReadAs (file : List ℕ) (h : Held) : Parsed → Type 0 where
-  aBlock : {subject clauses types : ℕ} (b : scope.Block) → fileOf file ≡ parsed b → HoldsBlock h subject clauses types b → ReadAs file h (Block subject clauses types)
-  aFault : {n k : ℕ} → fileOf file ≡ faulty n k → Sized h → Blank h → ReadAs file h (Faulty n k)
+pub data ReadAs (file : List ℕ) (h : Held) : scope.Step (ℕ × (ℕ × ℕ)) × ℕ → Type 0 where
+  aBlock : {subject clauses types : ℕ} (b : scope.Block) → fileOf file ≡ parsed b → HoldsBlock h subject clauses types b
+      → ReadAs file h (ok (subject, (clauses, types)), 0)
+  aFault : {n k : ℕ} → fileOf file ≡ faulty n k → Sized h → Blank h → ReadAs file h (refuse n, k)

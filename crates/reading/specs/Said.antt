@@ -1,11 +1,12 @@
 -- What the slices and the numbers of the code say: a state of the definitions.
 use mathlib.Core.Path.{_≡_}
 use mathlib.Core.Bool.{true}
+use mathlib.Core.Option.{some}
 use mathlib.Core.List.{List, []}
 use Prim.Native.Nat.{ℕ, _+_, _≤_, _<_}
 use lib.ListN.{length, getD}
 use Rattle.scope.specs.Types.{Table}
-use Rattle.scope.specs.Patterns.{Matrix}
+use Rattle.scope.specs.Simplify.{Matrix}
 use Rattle.scope.specs.Blocks as scope
 use Rattle.scope.specs.Blocks.{Block, Phase, types, constructors, clauses, closed, ok, refuse, isSound, nodesIn}
 use Rattle.layout.specs.Types.{Holds}
@@ -65,7 +66,7 @@ pub record Rows (bytes nodes left rows : List ℕ) (count used : ℕ) (table : T
 
 -- the slices, as long as the limits say, and the numbers say what the lines so far have said
 pub record Says (h : Held) (s : State) (σ : scope.State) : Type 0 where
-  pub phaseIs : phaseOf (s .phase) ≡ σ .phase
+  pub phaseIs : phaseOf (s .phase) ≡ some (σ .phase)
   pub holds : Holds (h .bytes) (h .kinds) (h .counts) (h .arities) (h .starts) (h .names) (h .fields) (h .labels) (s .types) (s .ctors) (s .fields) (σ .block .table)
   pub few : s .ctors ≤ 256
   pub subjectIs : s .subject ≡ σ .block .subject
@@ -79,7 +80,12 @@ pub record Known (h : Held) (s : State) : Type 0 where
   pub state : scope.State
   pub says : Says h s state
 
--- a line's answer is that of the definitions: on with what the slices say, or the same refusal
-pub data Stepped (h : Held) : Step → scope.Step scope.State → Type 0 where
-  goes : {s : State} {σ : scope.State} → Says h s σ → Stepped h (On s) (ok σ)
-  stops : (n : ℕ) → Stepped h (Refused n) (refuse n)
+-- document 01's number and values for each case: the numbers that go on; the refusal's number
+abbrev pub saidStep : Step → scope.Step State
+saidStep (On s) = ok s
+saidStep (Refused n) = refuse n
+
+-- what a line's answer says is what the definitions say: on with what the slices say, or the same refusal
+pub data Stepped (h : Held) : scope.Step State → scope.Step scope.State → Type 0 where
+  goes : {s : State} {σ : scope.State} → Says h s σ → Stepped h (ok s) (ok σ)
+  stops : (n : ℕ) → Stepped h (refuse n) (refuse n)

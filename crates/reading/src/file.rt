@@ -12,7 +12,7 @@ ghost use mathlib.Core.Path.{_≡_};
 ghost use Prim.Native.Nat.{_≤_};
 ghost use lib.ListN.{length, replicate};
 ghost use Rattle.reading.specs.Said.{held, Sized};
-ghost use Rattle.reading.specs.Files.{endOf, LinesAs, ReadAs};
+ghost use Rattle.reading.specs.Files.{endOf, LinesAs, saidParsed, ReadAs};
 
 pub enum Parsed {
     Block {
@@ -119,7 +119,7 @@ pub fn read(
 ) -> Parsed
     requires { ⌜ 24576 ≤ length (now bytes) ⌝ }
     requires { ⌜ Sized (held (now bytes) (now kinds) (now counts) (now arities) (now starts) (now names) (now fields) (now labels) (now nodes) (now left) (now rows)) ⌝ }
-    ensures { λ r. ⌜ ReadAs (now (file .entry)) (held (now (bytes .exit)) (now (kinds .exit)) (now (counts .exit)) (now (arities .exit)) (now (starts .exit)) (now (names .exit)) (now (fields .exit)) (now (labels .exit)) (now (nodes .exit)) (now (left .exit)) (now (rows .exit))) r ⌝ }
+    ensures { λ r. ⌜ ReadAs (now (file .entry)) (held (now (bytes .exit)) (now (kinds .exit)) (now (counts .exit)) (now (arities .exit)) (now (starts .exit)) (now (names .exit)) (now (fields .exit)) (now (labels .exit)) (now (nodes .exit)) (now (left .exit)) (now (rows .exit))) (saidParsed r) ⌝ }
 {
     *labels = [0; 5120];
     let r = read_lines(

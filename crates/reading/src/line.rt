@@ -17,7 +17,7 @@ ghost use Rattle.order.specs.Phases.{Numbers};
 ghost use lib.ListN.{length, getD, drop};
 ghost use Rattle.scope.specs.Blocks as scope;
 ghost use Rattle.scope.specs.Blocks.{framed};
-ghost use Rattle.reading.specs.Said.{held, Known, Says, Stepped};
+ghost use Rattle.reading.specs.Said.{held, Known, Says, saidStep, Stepped};
 ghost use Rattle.reading.specs.Enters.{OneMore, ForClause, EntersUse, Ended};
 
 pub enum Step {
@@ -161,7 +161,7 @@ pub fn enter_line(
     requires { ⌜ at < length (now bytes) ⌝ }
     requires { ⌜ length (now bytes) ≤ 24576 ⌝ }
     requires { ⌜ length (now bytes) ≤ at + 640 ⌝ }
-    ensures { λ r. ⌜ ((σ : scope.State) → Says (held (now (bytes .entry)) (now (kinds .entry)) (now (counts .entry)) (now (arities .entry)) (now (starts .entry)) (now (names .entry)) (now (fields .entry)) (now (labels .entry)) (now (nodes .entry)) (now (left .entry)) (now (rows .entry))) s σ → Stepped (held (now (bytes .entry)) (now (kinds .exit)) (now (counts .exit)) (now (arities .exit)) (now (starts .exit)) (now (names .exit)) (now (fields .exit)) (now (labels .exit)) (now (nodes .exit)) (now (left .exit)) (now (rows .exit))) r (framed σ (drop at (now (bytes .entry))))) ⌝ }
+    ensures { λ r. ⌜ ((σ : scope.State) → Says (held (now (bytes .entry)) (now (kinds .entry)) (now (counts .entry)) (now (arities .entry)) (now (starts .entry)) (now (names .entry)) (now (fields .entry)) (now (labels .entry)) (now (nodes .entry)) (now (left .entry)) (now (rows .entry))) s σ → Stepped (held (now (bytes .entry)) (now (kinds .exit)) (now (counts .exit)) (now (arities .exit)) (now (starts .exit)) (now (names .exit)) (now (fields .exit)) (now (labels .exit)) (now (nodes .exit)) (now (left .exit)) (now (rows .exit))) (saidStep r) (framed σ (drop at (now (bytes .entry))))) ⌝ }
 {
     let k = kind_of(bytes, at, s, last_ctors(counts, s.types));
     match k {

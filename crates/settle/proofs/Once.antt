@@ -5,7 +5,7 @@ use Prim.Native.Nat.{ℕ, _+_}
 use lib.ListN.{length}
 use lib.Seq.{sets}
 use Rattle.scope.proofs.Tests.{clash}
-use Rattle.scope.specs.Patterns.{Row, Item, put, pat}
+use Rattle.scope.specs.Simplify.{Row, Item, put, pat}
 use Rattle.layout.specs.Nodes.{rowOf}
 use Rattle.nodes.proofs.Numbers.{same-nodes}
 use Rattle.nodes.specs.Opens.{due}

@@ -6,7 +6,7 @@ use native.Mathlib.Nat.{add-zero}
 use native.Mathlib.Omega.{arith}
 use lib.ListN.{length, getD, length-append}
 use lib.Seq.{sets}
-use Rattle.scope.specs.Patterns.{Item, put, pat}
+use Rattle.scope.specs.Simplify.{Item, put, pat}
 use Rattle.layout.specs.Nodes.{rowOf, Literals, done, placesIn}
 use Rattle.nodes.proofs.Runs.{stores, puts-append, literals-append, no-places, both-plain}
 use Rattle.nodes.specs.Opens.{wanted, openAt, opens, pending, due, cellOf, taken, endOf}

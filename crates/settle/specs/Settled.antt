@@ -4,7 +4,7 @@ use mathlib.Core.List.{List, [], _∷_, _++_, map}
 use Prim.Native.Nat.{ℕ, suc, _+_, _*_, _≤_, _<_}
 use lib.ListN.{length}
 use lib.Seq.{sets}
-use Rattle.scope.specs.Patterns.{Item, put, pat}
+use Rattle.scope.specs.Simplify.{Item, put, pat}
 use Rattle.layout.specs.Nodes.{rowOf, Literals, placesIn}
 use Rattle.nodes.specs.Opens.{opens, pending, due}
 use Rattle.nodes.specs.declared.Open.{Open}

@@ -11,7 +11,7 @@ use lib.Seq.{sets-eq, getD-drop}
 use lib.Dec.{leb, ltb}
 use borrow.Author.Tests.{le-leb, lt-leb, lt-ltb, le-ltb}
 use Rattle.scope.specs.Lists.{all, any}
-use Rattle.scope.specs.Types.{isKnown}
+use Rattle.scope.specs.Finite.{isKnown}
 use Rattle.layout.specs.Places.{places, reads}
 use Rattle.sound.specs.Sound.{flags, fieldsKnown, valueIn, knownIn, allFiniteIn, isSoundIn}
 use Rattle.layout.proofs.Loops.{length-places, length-map}

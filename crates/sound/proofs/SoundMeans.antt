@@ -9,7 +9,9 @@ use lib.ListN.{length, getD}
 use lib.Dec.{leb, ltb}
 use borrow.Author.Tests.{ltb-true, lt-ltb}
 use Rattle.scope.specs.Lists.{all, any, flatten}
-use Rattle.scope.specs.Types.{Ref, Ty, integer, byteString, opaque, list, tuple, pair, dat, Table, typeAt, kind, fieldsOf, built, ctorsAt, ctors, refs, refsGood, isKnown, hasValue, rounds, allFinite}
+use Rattle.scope.specs.Types.{Ref, Ty, integer, byteString, opaque, list, tuple, pair, dat, Table, typeAt, kind, fieldsOf}
+use Rattle.scope.specs.Finite.{refs, refsGood, isKnown, hasValue, rounds, allFinite}
+use Rattle.scope.specs.Constructors.{built, ctorsAt, ctors}
 use Rattle.scope.specs.Blocks.{isSound}
 use Rattle.layout.specs.Types.{Shape, allFields, Fielded, Holds}
 use Rattle.layout.specs.Places.{places, reads}

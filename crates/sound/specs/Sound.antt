@@ -6,7 +6,7 @@ use lib.ListN.{getD, replicate}
 use lib.Seq.{sets}
 use lib.Dec.{leb, ltb}
 use Rattle.scope.specs.Lists.{all, any}
-use Rattle.scope.specs.Types.{isKnown}
+use Rattle.scope.specs.Finite.{isKnown}
 use Rattle.layout.specs.Places.{places, reads}
 
 -- 64 flags, of which the first are these

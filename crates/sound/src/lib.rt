@@ -9,7 +9,7 @@ ghost use Prim.Native.Nat.{_+_, _*_, _<_, _≤_, _^_};
 ghost use lib.ListN.{getD};
 ghost use lib.Dec.{ltb};
 ghost use Rattle.scope.specs.Lists.{all, any};
-ghost use Rattle.scope.specs.Types.{isKnown};
+ghost use Rattle.scope.specs.Finite.{isKnown};
 ghost use Rattle.layout.specs.Places.{places, reads};
 ghost use Rattle.sound.specs.Sound.{flags, fieldsKnown, valueIn, allFiniteIn, isSoundIn};
 

@@ -3,7 +3,8 @@ use mathlib.Core.Path.{_≡_, refl}
 use mathlib.Core.List.{[]}
 use native.Mathlib.Omega.{arith}
 use lib.ListN.{length, getD}
-use Rattle.scope.specs.Types.{Ref, Ty, integer, byteString, opaque, list, tuple, pair, dat, kind, built, fieldsOf, ctorsAt}
+use Rattle.scope.specs.Types.{Ref, Ty, integer, byteString, opaque, list, tuple, pair, dat, kind, fieldsOf}
+use Rattle.scope.specs.Constructors.{built, ctorsAt}
 
 -- a list has two constructors, and a cell two fields
 pub list-facts : (t : Ref) (ty : Ty) → kind ty ≡ 3 → (length (ctorsAt t ty) ≡ 2) × (length (fieldsOf (getD (ctorsAt t ty) 0 (built [] []))) ≡ 2)

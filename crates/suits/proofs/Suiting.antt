@@ -12,8 +12,10 @@ use lib.Dec.{ltb, leb, eqb}
 use borrow.Author.Tests.{ltb-true, leb-true, eqb-true, eq-eqb}
 use Rattle.scope.proofs.Tests.{both}
 use Rattle.scope.specs.Lists.{bit}
-use Rattle.scope.specs.Types.{Ref, Table, typeAt, kind, ctors, fieldsAt, arity}
-use Rattle.scope.specs.Patterns.{Literal, int, byteArray, Node, lit, con, Raw, pairOf, number, string, listOf, constructor, tupleOf, inner, Item, put, pat, suiting, cells, enough, arguments, whole, opened}
+use Rattle.scope.specs.Types.{Ref, Table, typeAt, kind}
+use Rattle.scope.specs.Constructors.{ctors, fieldsAt, arity}
+use Rattle.scope.specs.Patterns.{Raw, pairOf, integerOf, byteStringOf, listOf, constructor, tupleOf, inner}
+use Rattle.scope.specs.Simplify.{Literal, int, byteArray, Node, lit, con, Item, put, pat, suiting, elementItems, enough, arguments, whole, opened}
 use Rattle.layout.specs.Types.{textAt, Shape}
 use Rattle.layout.specs.Nodes.{literalAt, nodeOf, placesIn}
 use Rattle.nodes.specs.Keys.{literalKey}
@@ -60,8 +62,8 @@ module _ (bytes kinds counts arities : List ℕ) (at t : ℕ) (small : (i : ℕ)
       go zero e = rw e (refl, plain-one 0 (omega arith), λ h. absurd (omega arith))
       go (suc zero) e = rw e (refl, plain-one 0 (omega arith), λ h. absurd (omega arith))
       go (suc (suc zero)) e = rw e (refl, refl)
-      go (suc (suc (suc zero))) e = rw e (on-kind (eqb (getD kinds t 0) 0) (Leaf (literalKey at)) (number (textAt bytes (suc at))) (refl, literal-place at, λ h. (refl, rw e refl, inl e)))
-      go (suc (suc (suc (suc zero)))) e = rw e (on-kind (eqb (getD kinds t 0) 1) (Leaf (literalKey at)) (string (textAt bytes (suc at))) (refl, literal-place at, λ h. (refl, rw e refl, inr e)))
+      go (suc (suc (suc zero))) e = rw e (on-kind (eqb (getD kinds t 0) 0) (Leaf (literalKey at)) (integerOf (textAt bytes (suc at))) (refl, literal-place at, λ h. (refl, rw e refl, inl e)))
+      go (suc (suc (suc (suc zero)))) e = rw e (on-kind (eqb (getD kinds t 0) 1) (Leaf (literalKey at)) (byteStringOf (textAt bytes (suc at))) (refl, literal-place at, λ h. (refl, rw e refl, inr e)))
       go (suc (suc (suc (suc (suc zero))))) e = rw e (on-kind (eqb (getD kinds t 0) 3) (Cells (getD bytes (at + 1) 0) (eqb (getD bytes (at + 2) 0) 1)) (listOf (getD bytes (at + 1) 0) (eqb (getD bytes (at + 2) 0) 1)) (refl, refl, small (at + 1)))
       go (suc (suc (suc (suc (suc (suc zero)))))) e =
           let p = constructor (getD bytes (at + 1) 0) (getD bytes (at + 2) 0) (eqb (getD bytes (at + 3) 0) 1) in
@@ -122,7 +124,7 @@ module _ (bytes kinds counts arities : List ℕ) (at t : ℕ) (table : Table) (s
 
   list-agree : (k : ℕ) (tail : Bool) → Agree (onKind (eqb (getD kinds t 0) 3) (Cells k tail)) (opened table t (listOf k tail))
   list-agree k tail =
-      let is = cells t (getD (fieldsAt table t 0) 0 0) k tail in
+      let is = elementItems t (getD (fieldsAt table t 0) 0 0) k tail in
       when-kind 3 (Cells k tail) (suiting (eqb (kind (typeAt table t)) 3) is)
       (λ h. record { is = rw (eq-eqb (kind (typeAt table t)) 3 h); sound = h })
       (λ h. suiting-false (eqb (kind (typeAt table t)) 3) is h)

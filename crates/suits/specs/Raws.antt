@@ -3,14 +3,14 @@ use mathlib.Core.List.{List, [], _∷_}
 use Prim.Native.Nat.{ℕ, suc, _+_}
 use lib.ListN.{getD}
 use lib.Dec.{eqb}
-use Rattle.scope.specs.Patterns.{Raw, discard, variable, assign, pairOf, number, string, listOf, constructor, tupleOf}
+use Rattle.scope.specs.Patterns.{Raw, discard, variable, assign, pairOf, integerOf, byteStringOf, listOf, constructor, tupleOf}
 use Rattle.layout.specs.Types.{textAt}
 
 -- 00 discard, 01 variable, 02 assign, 03 integer, 04 byte string, 05 list, 06 constructor, 07 pair; 08 tuple
 unfoldable pub rawAt : List ℕ → ℕ → Raw
 rawAt bytes at =
     getD
-    (discard ∷ variable ∷ assign ∷ number (textAt bytes (suc at)) ∷ string (textAt bytes (suc at)) ∷ listOf (getD bytes (at + 1) 0) (eqb (getD bytes (at + 2) 0) 1) ∷ constructor (getD bytes (at + 1) 0) (getD bytes (at + 2) 0) (eqb (getD bytes (at + 3) 0) 1) ∷ pairOf ∷ [])
+    (discard ∷ variable (textAt bytes (suc at)) ∷ assign (textAt bytes (suc at)) ∷ integerOf (textAt bytes (suc at)) ∷ byteStringOf (textAt bytes (suc at)) ∷ listOf (getD bytes (at + 1) 0) (eqb (getD bytes (at + 2) 0) 1) ∷ constructor (getD bytes (at + 1) 0) (getD bytes (at + 2) 0) (eqb (getD bytes (at + 3) 0) 1) ∷ pairOf ∷ [])
     (getD bytes at 0)
     (tupleOf (getD bytes (at + 1) 0))
 
@@ -25,11 +25,11 @@ sizeAt bytes at = sizeOf (getD bytes at 0) (getD bytes (at + 1) 0)
 -- the place of a pattern that is a literal
 abbrev pub ownPlace : ℕ → Raw → List ℕ
 ownPlace at discard = []
-ownPlace at variable = []
-ownPlace at assign = []
+ownPlace at (variable n) = []
+ownPlace at (assign n) = []
 ownPlace at pairOf = []
-ownPlace at (number t) = at ∷ []
-ownPlace at (string t) = at ∷ []
+ownPlace at (integerOf t) = at ∷ []
+ownPlace at (byteStringOf t) = at ∷ []
 ownPlace at (listOf k tail) = []
 ownPlace at (constructor c k spread) = []
 ownPlace at (tupleOf k) = []

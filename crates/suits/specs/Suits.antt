@@ -6,8 +6,9 @@ use mathlib.Core.Option.{Option, none, some}
 use Prim.Native.Nat.{ℕ, _+_, _*_, _-_, _<_}
 use lib.ListN.{length, getD, take, replicate}
 use lib.Dec.{ltb, leb, eqb}
-use Rattle.scope.specs.Types.{Ref, Table, typeAt, kind, ctors, fieldsAt, arity}
-use Rattle.scope.specs.Patterns.{wild, con, Item, put, pat, cells}
+use Rattle.scope.specs.Types.{Ref, Table, typeAt, kind}
+use Rattle.scope.specs.Constructors.{ctors, fieldsAt, arity}
+use Rattle.scope.specs.Simplify.{wild, con, Item, put, pat, elementItems}
 use Rattle.layout.specs.Nodes.{nodeOf}
 use Rattle.nodes.specs.Keys.{literalKey}
 use Rattle.rules.specs.Kinds.{suitsKind}
@@ -42,7 +43,7 @@ suitAt bytes at kinds counts arities t = onKind (suitsKind (getD bytes at 0) (ge
 abbrev pub meant : Table → List ℕ → Ref → Suit → Option (List Item)
 meant table bytes t (Leaf n) = some (put (nodeOf bytes n) ∷ [])
 meant table bytes t Again = some (pat t ∷ [])
-meant table bytes t (Cells k tail) = some (cells t (getD (fieldsAt table t 0) 0 0) k tail)
+meant table bytes t (Cells k tail) = some (elementItems t (getD (fieldsAt table t 0) 0 0) k tail)
 meant table bytes t (Args c k w) = some (put (con t c) ∷ (map pat (take k (fieldsAt table t c)) ++ replicate w (put wild)))
 meant table bytes t Unfit = none
 

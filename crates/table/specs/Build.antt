@@ -6,7 +6,8 @@ use Prim.Native.Nat.{ℕ, _+_, _*_, _%_}
 use lib.ListN.{length, getD, set, replicate}
 use lib.Seq.{sets}
 use lib.Dec.{eqb}
-use Rattle.scope.specs.Types.{Ctor, dat, Table, builtIns}
+use Rattle.scope.specs.Types.{Ctor, dat, Table}
+use Rattle.scope.specs.Constructors.{builtIns}
 use Rattle.layout.specs.Places.{places, labelled, reads}
 use Rattle.order.specs.declared.State.{State}
 use Rattle.order.specs.Phases.{Numbers}

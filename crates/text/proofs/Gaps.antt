@@ -9,7 +9,7 @@ use lib.ListN.{length, take, drop, length-drop, take-append-drop}
 use lib.Seq.{length-take-le}
 use Rattle.scope.specs.Lists.{Text, bytes}
 use Rattle.scope.specs.Types.{Ref, Table}
-use Rattle.scope.specs.Patterns.{Row}
+use Rattle.scope.specs.Simplify.{Row}
 use Rattle.scope.specs.Text.{skip, source, paste, alone}
 use Rattle.scope.specs.Report.{gapLines}
 use Rattle.writing.specs.Writing.{Wrote}

@@ -5,8 +5,9 @@ use mathlib.Core.Bool.{Bool, true, false}
 use Prim.Native.Nat.{ℕ, _+_, _-_, _*_, _/_, _%_, _^_, _≤_, _<_}
 use lib.ListN.{length, getD}
 use Rattle.scope.specs.Lists.{Text, bytes}
-use Rattle.scope.specs.Types.{Ref, Table, typeAt, kind, ctors, fieldsAt}
-use Rattle.scope.specs.Patterns.{Row}
+use Rattle.scope.specs.Types.{Ref, Table, typeAt, kind}
+use Rattle.scope.specs.Constructors.{ctors, fieldsAt}
+use Rattle.scope.specs.Simplify.{Row}
 use Rattle.scope.specs.Text.{commas, skip, Mode, square, spelled, look, afterFirst, afterNext, Place, alone, inTail, texts, fieldText, fieldTexts, prettyCtor, prettyAt}
 use Rattle.layout.specs.Types.{textAt}
 use Rattle.writing.specs.Writing.{Wrote}

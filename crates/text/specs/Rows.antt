@@ -5,8 +5,10 @@ use mathlib.Core.Bool.{false}
 use Prim.Native.Nat.{ℕ, zero, suc, _<_}
 use lib.ListN.{length, getD, drop}
 use Rattle.scope.specs.Lists.{Text, same}
-use Rattle.scope.specs.Types.{Ref, Table, typeAt, kind, ctors, ctorAt, fieldsAt, consName}
-use Rattle.scope.specs.Patterns.{Literal, literalKind, wild, lit, con, Row}
+use Rattle.scope.specs.Types.{Ref, Table, typeAt, kind}
+use Rattle.scope.specs.Constructors.{ctors, ctorAt, fieldsAt, consName}
+use Rattle.scope.specs.Simplify.{Literal, wild, lit, con, Row}
+use Rattle.laws.specs.Typed.{literalKind}
 use Rattle.layout.specs.Types.{textAt, Shape, Named}
 use Rattle.layout.specs.Nodes.{rowOf}
 

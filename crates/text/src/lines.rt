@@ -2,7 +2,8 @@
 ghost use Prim.Native.Nat.{_+_, _-_, _*_, _≤_, _<_, _^_};
 ghost use lib.ListN.{length};
 ghost use Rattle.scope.specs.Types.{Table};
-ghost use Rattle.scope.specs.Report.{Findings, gapLines, report as reportText};
+ghost use Rattle.scope.specs.Driver.{Findings};
+ghost use Rattle.scope.specs.Report.{gapLines, report as reportText};
 ghost use Rattle.writing.specs.Writing.{Wrote};
 ghost use Rattle.looks.specs.Nodes.{modeOf};
 ghost use Rattle.text.specs.Rows.{slices};

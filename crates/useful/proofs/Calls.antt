@@ -11,6 +11,8 @@ use Rattle.matrix.specs.Numbers.{Rows, arOf, rowsBy, headOf, mem, Seen, seenOf,
 use Rattle.walks.specs.Walks.{anyFrom, usefulBy, usefulAlt, usefulSeen, usefulOf, size}
 use Rattle.matrix.specs.Places.{headAt, steps, Places, Patterned, Written, Listed}
 use Rattle.useful.specs.Ready.{limited, newRow, Ready, Work, Walked}
+use Rattle.scope.specs.Blocks.{ok}
+use Rattle.outcomes.specs.Past.{saidVerdict}
 use Rattle.outcomes.specs.declared.Verdict.{Verdict}
 use Rattle.ctors.specs.declared.Ctors.{Ctors}
 use Rattle.ctors.specs.declared.Ctors.the-variants.{Complete, Open}
@@ -128,7 +130,7 @@ module _ (bytes nodes left counts ars : List ℕ) where
       one : Walk Bool
       one = usefulAlt bytes counts ars (usefulOf bytes counts ars) (n - 1) (matrix nodes left n (take rows s)) (newRow w row) key
 
-      first : v ≡ limited calls room one
+      first : saidVerdict v ≡ limited calls room one
       unfolding one
       first = h .is ∙ ap (λ (x : List ℕ). limited calls room (usefulBy bytes counts ars (usefulOf bytes counts ars) (n - 1) (matrix nodes left n (take rows s)) x key)) (row-add w a row ∙ ap (λ (x : ℕ). replicate x 0 ++ newRow w row) ae)
 
@@ -136,8 +138,8 @@ module _ (bytes nodes left counts ars : List ℕ) where
       unfolding one
       each-last q = record { kept = h .kept; is = any-last (usefulAlt bytes counts ars (usefulOf bytes counts ars) (n - 1) (matrix nodes left n (take rows s)) (newRow w row)) key calls room more p v first q }
 
-      said-no : (d : ℕ) → turnOf v ≡ Next d → Done false d ≡ limited calls room one
-      said-no d q = sym (turn-next v d q) ∙ first
+      said-no : (d : ℕ) → turnOf v ≡ Next d → ok (false, d) ≡ limited calls room one
+      said-no d q = sym (ap saidVerdict (turn-next v d q)) ∙ first
 
       pub each-low : (d : ℕ) → turnOf v ≡ Next d → d ≤ 65536
       each-low d q = done-is calls room one false d (said-no d q) .few

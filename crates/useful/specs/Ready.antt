@@ -5,11 +5,12 @@ use mathlib.Core.List.{List, _++_, map}
 use Prim.Native.Nat.{ℕ, _+_, _*_, _-_, _≤_, _<_}
 use lib.ListN.{length, take, replicate}
 use Rattle.scope.specs.Walks.{Walk}
+use Rattle.scope.specs.Blocks.{Step, ok, refuse}
 use Rattle.outcomes.specs.declared.Verdict.{Verdict}
 use Rattle.matrix.specs.Numbers.{headOf, seenOf, matrix}
 use Rattle.walks.specs.Walks.{anyFrom, usefulBy, usefulAlt, usefulSeen, usefulOf}
 use Rattle.matrix.specs.Places.{Places, Patterned, Sizes}
-use Rattle.outcomes.specs.declared.Verdict.the-variants.{Done, Over}
+use Rattle.outcomes.specs.Past.{saidVerdict}
 use Rattle.walks.specs.Limits.{within}
 
 -- the new row: w invented wildcards, then a part of the table
@@ -39,14 +40,14 @@ pub record Work (nodes left counts arities row : List ℕ) (w k n : ℕ) (s : Li
   pub wide : n ≤ 16384
   pub some : 0 < n
 
--- the answer of `is_useful`: over exactly when a limit is passed
-unfoldable pub limited : ℕ → ℕ → Walk Bool → Verdict
-limited calls room w = cond (within calls room w) (Done (w .result) (calls + w .calls)) Over
+-- what the answer of `is_useful` says: 10 exactly when a limit is passed
+unfoldable pub limited : ℕ → ℕ → Walk Bool → Step (Bool × ℕ)
+limited calls room w = cond (within calls room w) (ok (w .result, calls + w .calls)) (refuse 10)
 
 -- what a walk leaves: the matrix at the front of the scratch s, which is e in the end, and the answer r that the limits make of the walk o
 pub record Walked (s : List ℕ) (rows : ℕ) (e : List ℕ) (r : Verdict) (calls room : ℕ) (o : Walk Bool) : Type 0 where
   pub kept : take rows e ≡ take rows s
-  pub is : r ≡ limited calls room o
+  pub is : saidVerdict r ≡ limited calls room o
 
 -- The walks that the code makes, of the matrix at the front of the scratch s and the new row
 module _ (bytes nodes left counts arities row : List ℕ) (w n : ℕ) (s : List ℕ) (rows : ℕ) where

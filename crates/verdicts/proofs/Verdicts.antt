@@ -11,7 +11,7 @@ use lib.Seq.{take-suc, length-take-le}
 use lib.Dec.{eqb}
 use Rattle.scope.specs.Lists.{Text, bytes, bit}
 use Rattle.scope.specs.Text.{decimal}
-use Rattle.scope.specs.Report.{yeses, noes, line, countLine, verdictWord, clauseLines}
+use Rattle.scope.specs.Report.{yeses, noes, asLine, countLine, verdictWord, clauseLines}
 use Rattle.writing.specs.Writing.{Wrote}
 use Rattle.verdicts.specs.Verdicts.{said, countsText}
 use Rattle.writing.proofs.Writing.{wrote-as}
@@ -44,7 +44,7 @@ both-counts (false ∷ vs) = omega (arith, both-counts vs)
 
 -- both counts, each after its word
 pub count-law : {a b c d : List ℕ} {at k l after : ℕ} (n y : ℕ)
-    → Wrote a b at k (bytes "clauses " ++ decimal n) → Wrote b c k l (bytes " reached " ++ decimal y) → Wrote c d l after (line (bytes " never " ++ decimal (n - y))) → Wrote a d at after (countsText n y)
+    → Wrote a b at k (bytes "clauses " ++ decimal n) → Wrote b c k l (bytes " reached " ++ decimal y) → Wrote c d l after (asLine (bytes " never " ++ decimal (n - y))) → Wrote a d at after (countsText n y)
 count-law n y u v w =
     let first = bytes "clauses " ++ decimal n in
     then-ended (first ++ bytes " reached " ++ decimal y) (bytes " never ") (decimal (n - y)) (then-numbered first (bytes " reached ") (decimal y) u v) w
@@ -53,12 +53,12 @@ count-law n y u v w =
 pub count-is : (vs : List ℕ) (y : ℕ) → y ≡ yeses (said vs) → countsText (length vs) y ≡ countLine (said vs)
 count-is vs y e =
     let m : length vs - y ≡ noes (said vs) = omega (arith, both-counts (said vs), said-length vs) in
-    ap₂ (λ (n k : ℕ). line (bytes "clauses " ++ decimal n ++ bytes " reached " ++ decimal k ++ bytes " never " ++ decimal (length vs - y))) (sym (said-length vs)) e
-    ∙ ap (λ (k : ℕ). line (bytes "clauses " ++ decimal (length (said vs)) ++ bytes " reached " ++ decimal (yeses (said vs)) ++ bytes " never " ++ decimal k)) m
+    ap₂ (λ (n k : ℕ). asLine (bytes "clauses " ++ decimal n ++ bytes " reached " ++ decimal k ++ bytes " never " ++ decimal (length vs - y))) (sym (said-length vs)) e
+    ∙ ap (λ (k : ℕ). asLine (bytes "clauses " ++ decimal (length (said vs)) ++ bytes " reached " ++ decimal (yeses (said vs)) ++ bytes " never " ++ decimal k)) m
 
 -- the line of clause k
 abbrev pub clauseText : ℕ → Bool → Text
-clauseText k v = line (bytes "clause " ++ decimal k ++ verdictWord v)
+clauseText k v = asLine (bytes "clause " ++ decimal k ++ verdictWord v)
 
 -- a verdict's word and the line feed are written as one
 pub clause-law : {a b : List ℕ} {at after : ℕ} (k : ℕ) (v : Bool) → Wrote a b at after (bytes "clause " ++ decimal k ++ cond v (bytes " reached\n") (bytes " never\n")) → Wrote a b at after (clauseText k v)

@@ -6,7 +6,7 @@ ghost use lib.ListN.{length};
 ghost use lib.Dec.{eqb};
 ghost use Rattle.scope.specs.Lists.{bytes as text, bit};
 ghost use Rattle.scope.specs.Text.{decimal as decimalText};
-ghost use Rattle.scope.specs.Report.{yeses as yesesOf, line, countLine, verdictWord, clauseLines};
+ghost use Rattle.scope.specs.Report.{yeses as yesesOf, asLine, countLine, verdictWord, clauseLines};
 ghost use Rattle.writing.specs.Writing.{Wrote};
 ghost use Rattle.verdicts.specs.Verdicts.{said, countsText};
 use wording::either;
@@ -53,7 +53,7 @@ fn count_line(clauses: usize, yes: usize, out: &mut [u8], at: usize) -> usize
 // The line of clause k.
 fn clause_line(k: usize, yes: bool, out: &mut [u8], at: usize) -> usize
     requires { ⌜ at + 64 < 2 ^ 62 ⌝ }
-    ensures { λ r. ⌜ Wrote (now (out .entry)) (now (out .exit)) at r (line (text "clause " ++ decimalText k ++ verdictWord yes)) ⌝ }
+    ensures { λ r. ⌜ Wrote (now (out .entry)) (now (out .exit)) at r (asLine (text "clause " ++ decimalText k ++ verdictWord yes)) ⌝ }
     ensures { λ r. ⌜ r ≤ at + 64 ⌝ }
 {
     let next = numbered(out, at, b"clause ", k);
@@ -80,7 +80,7 @@ fn clause_lines(verdicts: &[u8], out: &mut [u8], at: usize) -> usize
 pub fn head(verdicts: &[u8], gaps: usize, out: &mut [u8], at: usize) -> usize
     requires { ⌜ length (now verdicts) ≤ 65536 ⌝ }
     requires { ⌜ at < 2 ^ 32 ⌝ }
-    ensures { λ r. ⌜ Wrote (now (out .entry)) (now (out .exit)) at r (countLine (said (now (verdicts .entry))) ++ clauseLines 1 (said (now (verdicts .entry))) ++ line (text "gaps " ++ decimalText gaps)) ⌝ }
+    ensures { λ r. ⌜ Wrote (now (out .entry)) (now (out .exit)) at r (countLine (said (now (verdicts .entry))) ++ clauseLines 1 (said (now (verdicts .entry))) ++ asLine (text "gaps " ++ decimalText gaps)) ⌝ }
     ensures { λ r. ⌜ r ≤ at + 64 * length (now (verdicts .entry)) + 256 ⌝ }
 {
     let a = count_line(verdicts.len(), yeses(verdicts), out, at);

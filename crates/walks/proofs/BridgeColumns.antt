@@ -9,8 +9,9 @@ use native.Mathlib.Omega.{arith}
 use lib.ListN.{length, getD, length-map}
 use lib.Dec.{eqb}
 use borrow.Author.Tests.{eq-eqb, ne-eqb, lt-ltb, le-ltb, eqb-true, eqb-false}
-use Rattle.scope.specs.Types.{Ref, Table, fieldsOf, ctors, alts}
-use Rattle.scope.specs.Patterns.{Row, Matrix}
+use Rattle.scope.specs.Types.{Ref, Table, fieldsOf}
+use Rattle.scope.specs.Constructors.{ctors, alts}
+use Rattle.scope.specs.Simplify.{Row, Matrix}
 use Rattle.scope.specs.Walks.{beginsWith, seen, allSeen, columnType, Column, bare, part, full, columnAt, column}
 use Rattle.layout.specs.Types.{Shape}
 use Rattle.matrix.specs.Numbers as numbers

@@ -6,8 +6,9 @@ use Prim.Native.Nat.{ℕ, zero, suc, _+_, _*_, _≤_, _<_}
 use native.Mathlib.Nat.{add-zero, zero-add}
 use native.Mathlib.Omega.{arith}
 use lib.ListN.{length, getD, replicate, length-append, length-map, List·getD-map}
-use Rattle.scope.specs.Types.{Ref, Table, fieldsOf, built, ctors, fieldsAt, alts, arity}
-use Rattle.scope.specs.Patterns.{Node, wild, con, Row, Matrix}
+use Rattle.scope.specs.Types.{Ref, Table, fieldsOf}
+use Rattle.scope.specs.Constructors.{built, ctors, fieldsAt, alts, arity}
+use Rattle.scope.specs.Simplify.{Node, wild, con, Row, Matrix}
 use Rattle.scope.specs.Walks as scope
 use Rattle.scope.specs.Walks.{Walk, plain, holding, turned, joined, gather, unseen, seen, specializeByCtor, specializeByWildcard, recoverCtor, column, missingColumn, collectMissingStep, collectMissingPatterns}
 use Rattle.laws.proofs.Steps.{missing-law}

@@ -7,7 +7,7 @@ use native.Mathlib.Omega.{arith}
 use lib.Dec.{ltb}
 use borrow.Author.Tests.{lt-ltb, le-ltb, ltb-false}
 use Rattle.scope.specs.Types.{Ref, Table}
-use Rattle.scope.specs.Patterns.{Literal, Node, wild, lit, con, Row, Matrix}
+use Rattle.scope.specs.Simplify.{Literal, Node, wild, lit, con, Row, Matrix}
 use Rattle.scope.proofs.Tests.{clash}
 use Rattle.layout.specs.Types.{Shape}
 use Rattle.layout.specs.Nodes.{literalAt, nodeOf, rowOf}

@@ -8,8 +8,9 @@ use native.Mathlib.Omega.{arith}
 use lib.ListN.{length, replicate, List·getD-eq-default}
 use lib.Dec.{eqb}
 use borrow.Author.Tests.{eq-eqb, ne-eqb, eqb-true, eqb-false}
-use Rattle.scope.specs.Types.{Ref, Table, opaque, ctorsAt, ctors, fieldsAt, arity}
-use Rattle.scope.specs.Patterns.{Literal, sameLiteral, wild, Row, Matrix}
+use Rattle.scope.specs.Types.{Ref, Table, opaque}
+use Rattle.scope.specs.Constructors.{ctorsAt, ctors, fieldsAt, arity}
+use Rattle.scope.specs.Simplify.{Literal, sameLiteral, wild, Row, Matrix}
 use Rattle.scope.specs.Walks.{rowIf, specializeRowByCtor, specializeRowByLiteral, specializeRowByWildcard, eachRow, specializeByCtor, specializeByLiteral, specializeByWildcard}
 use Rattle.layout.specs.Types.{Shape}
 use Rattle.layout.specs.Nodes.{literalAt, LiteralStands}

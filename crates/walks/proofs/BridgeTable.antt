@@ -7,8 +7,10 @@ use native.Mathlib.Omega.{arith}
 use lib.ListN.{length, getD, take, drop, length-append}
 use lib.Seq.{drop-cons}
 use borrow.Author.Tests.{lt-ltb, le-ltb}
-use Rattle.scope.specs.Types.{Ref, Table, ctors, fieldsAt, arity}
-use Rattle.scope.specs.Patterns.{Node, wild, lit, con, Row, Matrix, Typed, done, wilds, lits, cons, TypedRows, noRows, also}
+use Rattle.scope.specs.Types.{Ref, Table}
+use Rattle.scope.specs.Constructors.{ctors, fieldsAt, arity}
+use Rattle.scope.specs.Simplify.{Node, wild, lit, con, Row, Matrix}
+use Rattle.laws.specs.Typed.{Typed, done, wilds, lits, cons, TypedRows, noRows, also}
 use Rattle.layout.specs.Types.{Shape}
 use Rattle.layout.specs.Nodes.{nodeOf, arguments, rowOf, leftOf, StandsAt, LiteralStands}
 use Rattle.matrix.specs.Numbers.{arOf, isCtor, baseOf, countOf}

@@ -11,7 +11,7 @@ use lib.Seq.{drop-cons, length-take-le}
 use lib.Dec.{eqb}
 use borrow.Author.Tests.{eq-eqb, ne-eqb}
 use Rattle.scope.specs.Lists.{Text, same}
-use Rattle.scope.specs.Patterns.{int, byteArray, sameLiteral}
+use Rattle.scope.specs.Simplify.{int, byteArray, sameLiteral}
 use Rattle.scope.proofs.Tests.{same-true}
 use Rattle.layout.specs.Types.{textAt}
 use Rattle.layout.specs.Nodes.{literalAt, LiteralStands}

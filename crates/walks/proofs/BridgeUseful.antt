@@ -7,8 +7,9 @@ use native.Mathlib.Nat.{add-zero, zero-add}
 use native.Mathlib.Numerals.{add-one}
 use native.Mathlib.Omega.{arith}
 use lib.ListN.{length, getD, replicate, length-append, length-map, List·getD-map}
-use Rattle.scope.specs.Types.{Ref, Table, fieldsOf, built, ctors, fieldsAt, alts, arity}
-use Rattle.scope.specs.Patterns.{wild, Row, Matrix}
+use Rattle.scope.specs.Types.{Ref, Table, fieldsOf}
+use Rattle.scope.specs.Constructors.{built, ctors, fieldsAt, alts, arity}
+use Rattle.scope.specs.Simplify.{wild, Row, Matrix}
 use Rattle.scope.specs.Walks.{Walk, holding, joined, tryEach, specializeByCtor, specializeByLiteral, specializeByWildcard, column, usefulWild, usefulHead, usefulBody, isUsefulStep, isUseful}
 use Rattle.laws.proofs.Steps.{useful-law}
 use Rattle.layout.specs.Types.{Shape}

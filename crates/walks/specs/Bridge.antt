@@ -3,8 +3,10 @@ use mathlib.Core.Path.{_≡_}
 use mathlib.Core.List.{List, [], _∷_, _++_, map}
 use Prim.Native.Nat.{ℕ, suc, _+_, _*_, _-_, _≤_, _<_}
 use lib.ListN.{length, getD}
-use Rattle.scope.specs.Types.{Ref, Table, ctors, fieldsAt}
-use Rattle.scope.specs.Patterns.{Literal, wild, lit, con, Row, Matrix, TypedRows}
+use Rattle.scope.specs.Types.{Ref, Table}
+use Rattle.scope.specs.Constructors.{ctors, fieldsAt}
+use Rattle.scope.specs.Simplify.{Literal, wild, lit, con, Row, Matrix}
+use Rattle.laws.specs.Typed.{TypedRows}
 use Rattle.scope.specs.Walks.{isUseful, turned, collectMissingPatterns}
 use Rattle.layout.specs.Types.{Shape}
 use Rattle.layout.specs.Nodes.{literalAt, rowOf, LiteralStands, HoldsRows}

@@ -5,7 +5,7 @@ ghost use Prim.Native.Nat.{_+_, _≤_, _<_, _^_};
 ghost use lib.ListN.{length};
 ghost use Rattle.scope.specs.Lists.{bytes as text};
 ghost use Rattle.scope.specs.Text.{decimal as decimalText};
-ghost use Rattle.scope.specs.Report.{line as lineOf};
+ghost use Rattle.scope.specs.Report.{asLine as lineOf};
 ghost use Rattle.writing.specs.Writing.{Wrote};
 use cells::wide8;
 use writing::all;

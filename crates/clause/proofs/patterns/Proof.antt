@@ -5,9 +5,10 @@ use lib.ListN.{length}
 use Rattle.scope.specs.Frames.{patterns}
 use Rattle.fields.specs.Places.{readAt}
 use Rattle.clause.specs.Written.{leaves}
-use Rattle.clause.proofs.Written.{Opened, opened, patterns-done, patterns-stops, patterns-goes}
+use Rattle.clause.proofs.Written.{pattern-told, Opened, opened, patterns-done, patterns-stops, patterns-goes}
 use borrow.Author.Needs.{needs}
 use native.Mathlib.Omega.{arith}
+use Rattle.fields.proofs.Readers.{tells}
 use Rattle.clause.proofs.patterns.Statement.{statement}
 use Rattle.clause.proofs.patterns.Tie as tie
 
@@ -19,7 +20,7 @@ abbrev μ-loop : tie.MeasureT-loop
 
 pattern-read : (c : tie.After-r2 Inv-loop μ-loop) → Opened (c .before .before .before .before .before .before .args .bytes .now) (c .before .before .before .before .loop .p) (c .r2 .given .0 .0) (c .r2 .given .0 .1 .0)
 pattern-read c =
-    opened (c .before .before .before .before .before .before .args .bytes .now) (c .before .before .before .before .loop .p) (c .r2 .given .0 .0) (c .r2 .given .0 .1 .0) (c .before .before .one-pattern .result) (c .before .before .before .before .loop .inv .0) (c .before .before .one-pattern .ensures .0) (c .r2 .given .1)
+    opened (c .before .before .before .before .before .before .args .bytes .now) (c .before .before .before .before .loop .p) (c .r2 .given .0 .0) (c .r2 .given .0 .1 .0) (c .before .before .one-pattern .result) (c .before .before .before .before .loop .inv .0) (pattern-told _ _ _ (c .before .before .one-pattern .ensures .0)) (c .r2 .given .1)
 
 few : (c : tie.After-r2 Inv-loop μ-loop) → c .r2 .given .0 .1 .0 ≤ 256
 few c =
@@ -35,7 +36,7 @@ one-pattern-requires c κs =
 
 returns : tie.Need-returns Inv-loop μ-loop
 returns c =
-    patterns-stops (c .before .before .before .before .before .before .before .args .bytes .now) (c .before .before .before .before .before .loop .p) (c .before .before .before .before .before .loop .left) (c .before .before .before .one-pattern .result) (c .before .r .given .0 .0) (c .before .before .before .before .loop-test .taken) (c .before .before .before .one-pattern .ensures .0) (c .before .r .given .1) ∙ c .before .before .before .before .before .loop .inv .2
+    tells _ _ _ (patterns-stops (c .before .before .before .before .before .before .before .args .bytes .now) (c .before .before .before .before .before .loop .p) (c .before .before .before .before .before .loop .left) (c .before .before .before .one-pattern .result) (c .before .r .given .0 .0) (c .before .before .before .before .loop-test .taken) (pattern-told _ _ _ (c .before .before .before .one-pattern .ensures .0)) (c .before .r .given .1) ∙ c .before .before .before .before .before .loop .inv .2)
 
 add-left : tie.Need-add-left Inv-loop μ-loop
 add-left c =
@@ -56,7 +57,7 @@ loop-again c =
 
 returns-2 : tie.Need-returns-2 Inv-loop μ-loop
 returns-2 c =
-    patterns-done (c .before .before .before .args .bytes .now) (c .before .loop .p) (c .before .loop .left) (c .loop-test .left) (c .before .loop .inv .0) ∙ c .before .loop .inv .2
+    tells _ _ _ (patterns-done (c .before .before .before .args .bytes .now) (c .before .loop .p) (c .before .loop .left) (c .loop-test .left) (c .before .loop .inv .0) ∙ c .before .loop .inv .2)
 
 pub patterns-spec : {M : Type 1} → statement M
 patterns-spec =

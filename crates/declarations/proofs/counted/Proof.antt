@@ -4,6 +4,7 @@ use native.Mathlib.Omega.{arith}
 use borrow.Author.Tests.{not-true, not-false}
 use Rattle.declarations.proofs.Shapes.{arity-stops, labels-inside, fields-plain, fields-labelled}
 use borrow.Author.Needs.{needs}
+use Rattle.fields.proofs.Readers.{told}
 use Rattle.declarations.proofs.counted.Statement.{statement}
 use Rattle.declarations.proofs.counted.Tie as tie
 
@@ -15,7 +16,7 @@ returns c =
 returns-2 : tie.Need-returns-2
 returns-2 c =
     let a = c .before .before .before .before .before .before .before .args in
-    fields-plain (a .bytes .now) (a .at) (a .labels) (c .before .before .before .before .before .at8 .result) (c .before .before .before .before .before .before .before .pre .0) (c .before .before .before .before .before .before .before .pre .1) (c .before .before .before .before .before .at8 .ensures) (sym (c .before .before .before .before .is-arity .ensures) ∙ not-false _ (c .before .before .before .if1 .left)) (c .skip .result) (c .before .wide8 .result) (c .before .wide8 .ensures) (c .before .before .match .keys1) (c .skip .ensures)
+    fields-plain (a .bytes .now) (a .at) (a .labels) (c .before .before .before .before .before .at8 .result) (c .before .before .before .before .before .before .before .pre .0) (c .before .before .before .before .before .before .before .pre .1) (c .before .before .before .before .before .at8 .ensures) (sym (c .before .before .before .before .is-arity .ensures) ∙ not-false _ (c .before .before .before .if1 .left)) (c .skip .result) (c .before .wide8 .result) (c .before .wide8 .ensures) (c .before .before .match .keys1) (told _ _ _ (c .skip .ensures))
 
 labelled-requires : tie.Need-labelled-requires
 labelled-requires c κs =

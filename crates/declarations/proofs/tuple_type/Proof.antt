@@ -4,6 +4,7 @@ use native.Mathlib.Omega.{arith}
 use borrow.Author.Tests.{not-true, not-false}
 use Rattle.declarations.proofs.Shapes.{counted-none, counted-some, counted-types}
 use borrow.Author.Needs.{needs}
+use Rattle.fields.proofs.Readers.{told}
 use Rattle.declarations.proofs.tuple_type.Statement.{statement}
 use Rattle.declarations.proofs.tuple_type.Tie as tie
 
@@ -24,7 +25,7 @@ skip-requires c κs =
 returns-2 : tie.Need-returns-2
 returns-2 c =
     let a = c .before .before .before .before .before .before .args in
-    counted-types (a .bytes .now) (a .at) (c .before .before .before .before .at8 .result) (c .before .before .before .before .at8 .ensures) (c .skip .result) (c .before .wide8 .result) (c .before .wide8 .ensures) (sym (c .before .before .before .among .ensures) ∙ not-false _ (c .before .before .if1 .left)) (c .skip .ensures)
+    counted-types (a .bytes .now) (a .at) (c .before .before .before .before .at8 .result) (c .before .before .before .before .at8 .ensures) (c .skip .result) (c .before .wide8 .result) (c .before .wide8 .ensures) (sym (c .before .before .before .among .ensures) ∙ not-false _ (c .before .before .if1 .left)) (told _ _ _ (c .skip .ensures))
 
 pub tuple-type-spec : {M : Type 1} → statement M
 tuple-type-spec =

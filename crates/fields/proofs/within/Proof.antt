@@ -2,22 +2,22 @@
 use mathlib.Core.Path.{sym, _∙_}
 use borrow.Author.Tests.{not-true, not-false}
 use Rattle.scope.specs.Lists.{among}
-use Rattle.fields.proofs.Readers.{passing-ends, passing-stops, passing-goes}
+use Rattle.fields.proofs.Readers.{tells, passing-ends, passing-stops, passing-goes}
 use borrow.Author.Needs.{needs}
 use Rattle.fields.proofs.within.Statement.{statement}
 use Rattle.fields.proofs.within.Tie as tie
 
 returns : tie.Need-returns
 returns c =
-    passing-ends (among (c .before .before .args .lo) (c .before .before .args .hi)) (c .before .before .args .bytes .now) (c .before .before .args .at) (c .before .before .pre) (c .if1 .taken)
+    tells _ _ _ (passing-ends (among (c .before .before .args .lo) (c .before .before .args .hi)) (c .before .before .args .bytes .now) (c .before .before .args .at) (c .before .before .pre) (c .if1 .taken))
 
 returns-2 : tie.Need-returns-2
 returns-2 c =
-    passing-stops (among (c .before .before .before .before .before .args .lo) (c .before .before .before .before .before .args .hi)) (c .before .before .before .before .before .args .bytes .now) (c .before .before .before .before .before .args .at) (c .before .before .before .if1 .left) (sym (c .before .among .ensures) ∙ not-true _ (c .if2 .taken))
+    tells _ _ _ (passing-stops (among (c .before .before .before .before .before .args .lo) (c .before .before .before .before .before .args .hi)) (c .before .before .before .before .before .args .bytes .now) (c .before .before .before .before .before .args .at) (c .before .before .before .if1 .left) (sym (c .before .among .ensures) ∙ not-true _ (c .if2 .taken)))
 
 returns-3 : tie.Need-returns-3
 returns-3 c =
-    passing-goes (among (c .before .before .before .before .before .args .lo) (c .before .before .before .before .before .args .hi)) (c .before .before .before .before .before .args .bytes .now) (c .before .before .before .before .before .args .at) (c .before .before .before .if1 .left) (sym (c .before .among .ensures) ∙ not-false _ (c .if2 .left))
+    tells _ _ _ (passing-goes (among (c .before .before .before .before .before .args .lo) (c .before .before .before .before .before .args .hi)) (c .before .before .before .before .before .args .bytes .now) (c .before .before .before .before .before .args .at) (c .before .before .before .if1 .left) (sym (c .before .among .ensures) ∙ not-false _ (c .if2 .left)))
 
 pub within-spec : {M : Type 1} → statement M
 within-spec =

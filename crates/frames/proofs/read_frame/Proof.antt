@@ -38,9 +38,9 @@ use denote.Triple.Walked.{says, Stays, stay-none-slice, walkOf, goes-none-slice,
 use denote.Exit.{yes}
 use denote.Triple.Clauses.{ensured, lasts}
 use Rattle.scope.specs.Frames as scope
-use Rattle.fields.specs.Places.{readAt}
+use Rattle.fields.specs.Places.{saidRead, saidAt}
 use Rattle.frames.specs.Wholes.{whole}
-use Rattle.frames.specs.Lines.{frameOf}
+use Rattle.frames.specs.Lines.{saidFramed, frameOf}
 use Rattle.fields.specs.declared.Read.{Read}
 use Rattle.frames.specs.declared.Framed.{Framed}
 use Rattle.frames.specs.declared.Reader.{Reader}
@@ -152,8 +152,8 @@ module _ {M : Type 1} (𝓤 : URA M) (H : Heap 𝓤) (A : Atoms 𝓤) (W : Given
       suffices ! _ (says-both 𝓤 H A W (onEntry 𝓤 H A rest.signature (κ, tt) (q, tt) (p, (k, tt)) (u ∷ [], (w ∷ [], tt))) within short) $
       nothing ! $ owned ! u8 (Is u8) (uint-makes 𝓤 H A W w8) k (w ∷ []) is $ fjoin ! $ move ! (1 ∷ 0 ∷ []) $ fjoin ! $ move ! (1 ∷ 0 ∷ []) $ frame ! $ done !
 
-  rest-said : (p : Reader) (k : ℕ) (t : Read) → ent 𝓤 (ensured 𝓤 H A rest.ended (rest.clauses 𝓤 H A mem run) (κ, tt) (p, (k, tt)) tt t) (fact 𝓤 (t ≡ readAt (now (p .line)) (p .at) (λ bs. whole (scope.frame k bs))))
-  rest-said p k t = exE 𝓤 _ (λ ws. snd∗ 𝓤 (sem 𝓤 H A (lasts rest.ended (κ, tt) (p, (k, tt)) ws)) (fact 𝓤 (t ≡ readAt (now (p .line)) (p .at) (λ bs. whole (scope.frame k bs)))))
+  rest-said : (p : Reader) (k : ℕ) (t : Read) → ent 𝓤 (ensured 𝓤 H A rest.ended (rest.clauses 𝓤 H A mem run) (κ, tt) (p, (k, tt)) tt t) (fact 𝓤 (saidRead t ≡ saidAt (now (p .line)) (p .at) (λ bs. whole (scope.frame k bs))))
+  rest-said p k t = exE 𝓤 _ (λ ws. snd∗ 𝓤 (sem 𝓤 H A (lasts rest.ended (κ, tt) (p, (k, tt)) ws)) (fact 𝓤 (saidRead t ≡ saidAt (now (p .line)) (p .at) (λ bs. whole (scope.frame k bs)))))
 
   -- the result, the value that stands for it, and what it owns: what the kind and the rest own
   abbrev made : ℕ → Read → Framed
@@ -170,7 +170,7 @@ module _ {M : Type 1} (𝓤 : URA M) (H : Heap 𝓤) (A : Atoms 𝓤) (W : Given
       qed W (‵ (S.the-row .own t (z ∷ [])) ∷ []) ∵ nothing ! $ move ! (1 ∷ 0 ∷ []) $ fjoin ! $ owned ! u8 (Is u8) (uint-makes 𝓤 H A W w8) k (w ∷ []) is $ fjoin ! $
       by ! (makes 𝓤 H A W (u8 ∷ S.the-row ∷ []) (had k t) (w ∷ [], (z ∷ [], tt)))
 
-  exits : (f : Framed) (u : Val) → f ≡ frameOf (now s) → ent 𝓤 (⋆ 𝓤 H A (‵ (F.the-row .own f (u ∷ [])) ∷ (‵ (flft κ q) ⊛ ‵ ftrue) ∷ ‵ Own ∷ [])) (Post u)
+  exits : (f : Framed) (u : Val) → saidFramed f ≡ frameOf (now s) → ent 𝓤 (⋆ 𝓤 H A (‵ (F.the-row .own f (u ∷ [])) ∷ (‵ (flft κ q) ⊛ ‵ ftrue) ∷ ‵ Own ∷ [])) (Post u)
   exits f u e =
       qed W (‵ (F.the-row .own f (u ∷ [])) ∷ (‵ (flft κ q) ⊛ ‵ ftrue) ∷ ‵ Own ∷ []) ∵
       suffices ! _ (ends-at 𝓤 H A read-frame.ended stayed (read-frame.clauses 𝓤 H A mem run) W (((κ, tt), (q, tt), tt, (s, tt), (v ∷ [], tt)), tt) u f (tt, tt) (tt, tt)) $ says ! e $
@@ -210,7 +210,7 @@ module _ {M : Type 1} (𝓤 : URA M) (H : Heap 𝓤) (A : Atoms 𝓤) (W : Given
         use2 W (raw (Rest 𝓤 H A mem run .pre (to-rest p x k w))) (goes-rest p x k w is-k (at-second s r begun p moved some-byte) (as-short s r begun p moved short)) $
         calls-at ! fm (Rest 𝓤 H A mem run) known-rest (to-rest p x k w) (and-then ! (load ! (from ! (stop !)) (look ! 4 refl)) (and-then ! (load ! (from ! (stop !)) (look ! 10 refl)) (no-more !))) (λ z.
         use1 W (later (some (λ (t : Read). ((‵ (flft κ q) ⊛ ‵ ftrue) ⊛ ‵ (S.the-row .own t (z ∷ []))) ⊛ raw (ensured 𝓤 H A rest.ended (rest.clauses 𝓤 H A mem run) (κ, tt) (p, (k, tt)) tt t)))) (id⊢ 𝓤 _) $ await ! tt $ pick ! (λ t.
-        split ! $ move ! (1 ∷ []) $ use1 W (raw (fact 𝓤 (t ≡ readAt (now (p .line)) (p .at) (λ bs. whole (scope.frame k bs))))) (rest-said p k t) $ heard ! (t ≡ readAt (now (p .line)) (p .at) (λ bs. whole (scope.frame k bs))) (λ b. split ! $ move ! (1 ∷ []) $
+        split ! $ move ! (1 ∷ []) $ use1 W (raw (fact 𝓤 (saidRead t ≡ saidAt (now (p .line)) (p .at) (λ bs. whole (scope.frame k bs))))) (rest-said p k t) $ heard ! (saidRead t ≡ saidAt (now (p .line)) (p .at) (λ bs. whole (scope.frame k bs))) (λ b. split ! $ move ! (1 ∷ []) $
         -- [what the rest owns; the token; what the line owns; _7; …]
         peeks ! S.the-row (Is S.the-row) (shows 𝓤 H A S.the-row) t (z ∷ []) (λ is-t.
         land ! (from ! (stop !)) (init ! 7 refl (EL.lawful S.the-type S′.the-laws 𝓤 H A W tt .typed t _ is-t .0)) $

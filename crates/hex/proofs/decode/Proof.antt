@@ -5,7 +5,8 @@ use mathlib.Core.Path.{_≡_, refl, ap, _∙_}
 use lib.ListN.{length, take, set}
 use lib.Seq.{sets, length-sets}
 use Rattle.scope.specs.Lines.{isHex, unhex}
-use Rattle.hex.proofs.Hexadecimal.{length-unhex, all-at, decode-next, decode-done}
+use Rattle.scope.proofs.Tests.{all-at}
+use Rattle.hex.proofs.Hexadecimal.{length-unhex, decode-next, decode-done}
 use borrow.Author.Needs.{needs}
 use native.Mathlib.Omega.{arith}
 use Rattle.hex.proofs.decode.Statement.{statement}
@@ -23,7 +24,7 @@ loop-holds c =
 
 byte-of-requires : tie.Need-byte-of-requires Inv-loop μ-loop
 byte-of-requires c κs =
-    (all-at isHex (c .before .before .before .before .before .before .args .ds .now) _ (c .before .before .before .before .before .before .pre .0) (omega arith), all-at isHex (c .before .before .before .before .before .before .args .ds .now) _ (c .before .before .before .before .before .before .pre .0) (omega arith))
+    (all-at isHex (c .before .before .before .before .before .before .args .ds .now) 0 (c .before .before .before .before .before .before .pre .0) _ (omega arith), all-at isHex (c .before .before .before .before .before .before .args .ds .now) 0 (c .before .before .before .before .before .before .pre .0) _ (omega arith))
 
 add-out : tie.Need-add-out Inv-loop μ-loop
 add-out c =

@@ -2,6 +2,8 @@
 use Rattle.judge.proofs.Driver.{judges-all}
 use Rattle.judge.specs.declared.Judged.the-variants.{Done, Over}
 use Rattle.judge.proofs.Clauses.{rising, none-yet, Before, before-none, before-within, before-next, before-over, over-at, done-at, written-whole}
+use Rattle.scope.specs.Blocks.{ok}
+use Rattle.outcomes.specs.Past.{saidVerdict}
 use Rattle.judge.specs.Driver.{judgedTo, answered, written}
 use Rattle.scope.specs.Lists.{bit}
 use lib.Seq.{sets, length-sets}
@@ -42,7 +44,7 @@ same-length-2 c =
 returns : tie.Need-returns Inv-loop μ-loop
 returns c =
     let a = c .before .before .before .before .before .before .before .before .before .before .before .before .before .before .before .before .args in
-    let o = over-at (judgedTo (a .bytes .now) (a .counts .now) (a .arities .now) (a .nodes .now) (a .starts .now)) (rising (a .bytes .now) (a .counts .now) (a .arities .now) (a .nodes .now) (a .starts .now)) (c .before .before .before .before .before .before .before .loop .k) (length (a .starts .now)) (c .before .before .before .before .before .before .loop-test .taken) (none-yet (a .bytes .now) (a .counts .now) (a .arities .now) (a .nodes .now) (a .starts .now) (c .before .before .before .before .before .before .before .loop .k)) (before-within (a .bytes .now) (a .counts .now) (a .arities .now) (a .nodes .now) (a .starts .now) (c .before .before .before .before .before .before .before .loop .k) (c .before .before .before .before .before .before .before .loop .calls) (a .verdicts .now) (c .before .before .before .before .before .before .before .loop .verdicts) (c .before .before .before .before .before .before .before .loop .inv .2)) (before-over (a .bytes .now) (a .counts .now) (a .arities .now) (a .nodes .now) (a .starts .now) (c .before .before .before .before .before .before .before .loop .k) (c .before .before .before .before .before .before .before .loop .calls) (a .verdicts .now) (c .before .before .before .before .before .before .before .loop .verdicts) (c .before .before .before .before .before .before .before .loop .inv .2) (sym (c .enum-told .given .1) ∙ c .before .before .before .before .clause .ensures)) in
+    let o = over-at (judgedTo (a .bytes .now) (a .counts .now) (a .arities .now) (a .nodes .now) (a .starts .now)) (rising (a .bytes .now) (a .counts .now) (a .arities .now) (a .nodes .now) (a .starts .now)) (c .before .before .before .before .before .before .before .loop .k) (length (a .starts .now)) (c .before .before .before .before .before .before .loop-test .taken) (none-yet (a .bytes .now) (a .counts .now) (a .arities .now) (a .nodes .now) (a .starts .now) (c .before .before .before .before .before .before .before .loop .k)) (before-within (a .bytes .now) (a .counts .now) (a .arities .now) (a .nodes .now) (a .starts .now) (c .before .before .before .before .before .before .before .loop .k) (c .before .before .before .before .before .before .before .loop .calls) (a .verdicts .now) (c .before .before .before .before .before .before .before .loop .verdicts) (c .before .before .before .before .before .before .before .loop .inv .2)) (before-over (a .bytes .now) (a .counts .now) (a .arities .now) (a .nodes .now) (a .starts .now) (c .before .before .before .before .before .before .before .loop .k) (c .before .before .before .before .before .before .before .loop .calls) (a .verdicts .now) (c .before .before .before .before .before .before .before .loop .verdicts) (c .before .before .before .before .before .before .before .loop .inv .2) (sym (ap saidVerdict (c .enum-told .given .1)) ∙ c .before .before .before .before .clause .ensures)) in
     let said : c .before .before .before .before .before .before .before .loop .verdicts ≡ sets (a .verdicts .now) 0 (map bit (written (judgedTo (a .bytes .now) (a .counts .now) (a .arities .now) (a .nodes .now) (a .starts .now)) (length (a .starts .now)))) = c .before .before .before .before .before .before .before .loop .inv .2 .verdicts ∙ ap (λ l. sets (a .verdicts .now) 0 (map bit l)) (sym (o .1)) in
     (o .0, (said, judges-all (a .bytes .now) (a .nodes .now) (a .left .now) (a .counts .now) (a .arities .now) (a .starts .now) (c .before .before .before .before .before .before .before .before .before .before .before .before .before .before .before .before .pre .0 .low) (a .verdicts .now) (c .before .before .before .before .before .before .before .loop .verdicts) Over (o .0) said))
 
@@ -63,7 +65,7 @@ loop-less c =
 loop-again : tie.Need-loop-again Inv-loop μ-loop
 loop-again c =
     let a = c .before .before .before .before .before .before .before .before .before .before .before .before .before .before .before .before .before .before .args in
-    (omega (arith, c .before .before .before .before .before .before .before .before .loop-test .taken), c .before .before .before .before .before .before .clause .kept .1 .1 .1 .1 .1 .1 .1 .0 ∙ c .before .before .before .before .before .before .before .before .before .loop .inv .1, before-next (a .bytes .now) (a .counts .now) (a .arities .now) (a .nodes .now) (a .starts .now) (c .before .before .before .before .before .before .before .before .before .loop .k) (c .before .before .before .before .before .before .before .before .before .loop .calls) (a .verdicts .now) (c .before .before .before .before .before .before .before .before .before .loop .verdicts) (c .before .before .before .before .before .before .before .before .before .loop .inv .2) (c .before .before .r .given .0 .0) (c .before .before .r .given .0 .1 .0) (c .bit-of .result) _ (sym (c .before .before .r .given .1) ∙ c .before .before .before .before .before .before .clause .ensures) (c .bit-of .ensures) refl)
+    (omega (arith, c .before .before .before .before .before .before .before .before .loop-test .taken), c .before .before .before .before .before .before .clause .kept .1 .1 .1 .1 .1 .1 .1 .0 ∙ c .before .before .before .before .before .before .before .before .before .loop .inv .1, before-next (a .bytes .now) (a .counts .now) (a .arities .now) (a .nodes .now) (a .starts .now) (c .before .before .before .before .before .before .before .before .before .loop .k) (c .before .before .before .before .before .before .before .before .before .loop .calls) (a .verdicts .now) (c .before .before .before .before .before .before .before .before .before .loop .verdicts) (c .before .before .before .before .before .before .before .before .before .loop .inv .2) (c .before .before .r .given .0 .0) (c .before .before .r .given .0 .1 .0) (c .bit-of .result) _ (sym (ap saidVerdict (c .before .before .r .given .1)) ∙ c .before .before .before .before .before .before .clause .ensures) (c .bit-of .ensures) refl)
 
 same-length-3 : tie.Need-same-length-3 Inv-loop μ-loop
 same-length-3 c =
@@ -81,7 +83,7 @@ returns-2 c =
     let e : c .before .loop .k ≡ length (a .starts .now) = omega (arith, c .loop-test .left, c .before .loop .inv .0) in
     let w = before-within (a .bytes .now) (a .counts .now) (a .arities .now) (a .nodes .now) (a .starts .now) (c .before .loop .k) (c .before .loop .calls) (a .verdicts .now) (c .before .loop .verdicts) (c .before .loop .inv .2) in
     let f = judgedTo (a .bytes .now) (a .counts .now) (a .arities .now) (a .nodes .now) (a .starts .now) in
-    let is : Done (c .before .loop .calls) ≡ answered (judgedTo (a .bytes .now) (a .counts .now) (a .arities .now) (a .nodes .now) (a .starts .now) (length (a .starts .now))) = ap Done (c .before .loop .inv .2 .called) ∙ done-at f (rising (a .bytes .now) (a .counts .now) (a .arities .now) (a .nodes .now) (a .starts .now)) (c .before .loop .k) w ∙ ap (λ (i : ℕ). answered (f i)) e in
+    let is : ok (c .before .loop .calls) ≡ answered (judgedTo (a .bytes .now) (a .counts .now) (a .arities .now) (a .nodes .now) (a .starts .now) (length (a .starts .now))) = ap ok (c .before .loop .inv .2 .called) ∙ done-at f (rising (a .bytes .now) (a .counts .now) (a .arities .now) (a .nodes .now) (a .starts .now)) (c .before .loop .k) w ∙ ap (λ (i : ℕ). answered (f i)) e in
     let said : c .before .loop .verdicts ≡ sets (a .verdicts .now) 0 (map bit (written (judgedTo (a .bytes .now) (a .counts .now) (a .arities .now) (a .nodes .now) (a .starts .now)) (length (a .starts .now)))) = c .before .loop .inv .2 .verdicts ∙ ap (λ l. sets (a .verdicts .now) 0 (map bit l)) (sym (written-whole f (c .before .loop .k) (none-yet (a .bytes .now) (a .counts .now) (a .arities .now) (a .nodes .now) (a .starts .now) (c .before .loop .k)) w) ∙ ap (written f) e) in
     (is, (said, judges-all (a .bytes .now) (a .nodes .now) (a .left .now) (a .counts .now) (a .arities .now) (a .starts .now) (c .before .before .before .before .before .before .before .before .before .before .pre .0 .low) (a .verdicts .now) (c .before .loop .verdicts) (Done (c .before .loop .calls)) is said))
 

@@ -4,8 +4,9 @@ use mathlib.Core.Path.{refl, sym, subst}
 use native.Mathlib.Omega.{arith}
 use lib.ListN.{length}
 use lib.Seq.{length-take-le}
-use Rattle.judging.specs.Walks.{Walked}
-use Rattle.scope.specs.Report.{findings}
+use Rattle.judging.specs.declared.Walks.{Walks}
+use Rattle.judging.specs.Walks.{saidWalks, Walked}
+use Rattle.scope.specs.Driver.{findings}
 use Rattle.judging.proofs.Judging.{sizes, starts, says, reported, part-of-verdicts, part-of-out, small, too-much-work}
 use Rattle.judging.proofs.judged.Statement.{statement}
 use Rattle.judging.proofs.judged.Tie as tie
@@ -20,15 +21,15 @@ slice-aggregate-say c =
 
 array-share-prefix-out : tie.Need-array-share-prefix-out
 array-share-prefix-out c =
-    (part-of-out _ (c .before .before .before .before .before .before .before .before .before .before .before .before .before .before .before .before .before .before .before .before .before .before .pre .0) (c .before .before .before .before .before .before .before .before .before .before .walk .last .1 .1 .1 .1 .1 .1 .1 .0) (c .before .before .before .before .before .before .before .before .before .before .walk .last .1 .1 .1 .1 .1 .1 .1 .1 .0) (c .before .before .before .before .before .before .w .given .0 .0) (c .before .before .before .before .before .before .w .given .0 .1 .0) (c .before .before .before .before .before .before .w .given .0 .1 .1 .0) (c .before .before .before .before .before .before .w .given .0 .1 .1 .1 .0) (c .before .before .before .before .before .before .before .before .before .before .walk .ensures .1 .0 .1) (subst (Walked (c .before .before .before .before .before .before .before .before .before .before .before .before .before .before .before .before .before .before .before .before .before .before .args .bytes .now) (c .before .before .before .before .before .before .before .before .before .before .before .before .before .before .before .before .before .before .before .before .before .before .pre .0 .block) (c .before .before .before .before .before .before .before .before .before .before .walk .last .1 .1 .1 .1 .1 .1 .1 .0) (c .before .before .before .before .before .before .before .before .before .before .walk .last .1 .1 .1 .1 .1 .1 .1 .1 .0)) (c .before .before .before .before .before .before .w .given .1) (c .before .before .before .before .before .before .before .before .before .before .walk .ensures .0 (c .before .before .before .before .before .before .before .before .before .before .before .before .before .before .before .before .before .before .before .before .before .before .args .kinds .now) (c .before .before .before .before .before .before .before .before .before .before .before .before .before .before .before .before .before .before .before .before .before .before .pre .0 .block) (c .before .before .before .before .before .before .before .before .before .before .before .before .before .before .before .before .before .before .before .before .before .before .pre .0 .holds .holding))))
+    (part-of-out _ (c .before .before .before .before .before .before .before .before .before .before .before .before .before .before .before .before .before .before .before .before .before .before .pre .0) (c .before .before .before .before .before .before .before .before .before .before .walk .last .1 .1 .1 .1 .1 .1 .1 .0) (c .before .before .before .before .before .before .before .before .before .before .walk .last .1 .1 .1 .1 .1 .1 .1 .1 .0) (c .before .before .before .before .before .before .w .given .0 .0) (c .before .before .before .before .before .before .w .given .0 .1 .0) (c .before .before .before .before .before .before .w .given .0 .1 .1 .0) (c .before .before .before .before .before .before .w .given .0 .1 .1 .1 .0) (c .before .before .before .before .before .before .before .before .before .before .walk .ensures .1 .0 .1) (subst (λ (x : Walks). Walked (c .before .before .before .before .before .before .before .before .before .before .before .before .before .before .before .before .before .before .before .before .before .before .args .bytes .now) (c .before .before .before .before .before .before .before .before .before .before .before .before .before .before .before .before .before .before .before .before .before .before .pre .0 .block) (c .before .before .before .before .before .before .before .before .before .before .walk .last .1 .1 .1 .1 .1 .1 .1 .0) (c .before .before .before .before .before .before .before .before .before .before .walk .last .1 .1 .1 .1 .1 .1 .1 .1 .0) (saidWalks x)) (c .before .before .before .before .before .before .w .given .1) (c .before .before .before .before .before .before .before .before .before .before .walk .ensures .0 (c .before .before .before .before .before .before .before .before .before .before .before .before .before .before .before .before .before .before .before .before .before .before .args .kinds .now) (c .before .before .before .before .before .before .before .before .before .before .before .before .before .before .before .before .before .before .before .before .before .before .pre .0 .block) (c .before .before .before .before .before .before .before .before .before .before .before .before .before .before .before .before .before .before .before .before .before .before .pre .0 .holds .holding))))
 
 slice-aggregate-say-2 : tie.Need-slice-aggregate-say-2
 slice-aggregate-say-2 c =
-    (sym (length-take-le (c .before .before .before .before .before .before .before .w .given .0 .1 .0) (c .before .before .before .before .before .before .before .before .before .before .before .walk .last .1 .1 .1 .1 .1 .1 .1 .1 .0) (part-of-out _ (c .before .before .before .before .before .before .before .before .before .before .before .before .before .before .before .before .before .before .before .before .before .before .before .pre .0) (c .before .before .before .before .before .before .before .before .before .before .before .walk .last .1 .1 .1 .1 .1 .1 .1 .0) (c .before .before .before .before .before .before .before .before .before .before .before .walk .last .1 .1 .1 .1 .1 .1 .1 .1 .0) (c .before .before .before .before .before .before .before .w .given .0 .0) (c .before .before .before .before .before .before .before .w .given .0 .1 .0) (c .before .before .before .before .before .before .before .w .given .0 .1 .1 .0) (c .before .before .before .before .before .before .before .w .given .0 .1 .1 .1 .0) (c .before .before .before .before .before .before .before .before .before .before .before .walk .ensures .1 .0 .1) (subst (Walked (c .before .before .before .before .before .before .before .before .before .before .before .before .before .before .before .before .before .before .before .before .before .before .before .args .bytes .now) (c .before .before .before .before .before .before .before .before .before .before .before .before .before .before .before .before .before .before .before .before .before .before .before .pre .0 .block) (c .before .before .before .before .before .before .before .before .before .before .before .walk .last .1 .1 .1 .1 .1 .1 .1 .0) (c .before .before .before .before .before .before .before .before .before .before .before .walk .last .1 .1 .1 .1 .1 .1 .1 .1 .0)) (c .before .before .before .before .before .before .before .w .given .1) (c .before .before .before .before .before .before .before .before .before .before .before .walk .ensures .0 (c .before .before .before .before .before .before .before .before .before .before .before .before .before .before .before .before .before .before .before .before .before .before .before .args .kinds .now) (c .before .before .before .before .before .before .before .before .before .before .before .before .before .before .before .before .before .before .before .before .before .before .before .pre .0 .block) (c .before .before .before .before .before .before .before .before .before .before .before .before .before .before .before .before .before .before .before .before .before .before .before .pre .0 .holds .holding))))))
+    (sym (length-take-le (c .before .before .before .before .before .before .before .w .given .0 .1 .0) (c .before .before .before .before .before .before .before .before .before .before .before .walk .last .1 .1 .1 .1 .1 .1 .1 .1 .0) (part-of-out _ (c .before .before .before .before .before .before .before .before .before .before .before .before .before .before .before .before .before .before .before .before .before .before .before .pre .0) (c .before .before .before .before .before .before .before .before .before .before .before .walk .last .1 .1 .1 .1 .1 .1 .1 .0) (c .before .before .before .before .before .before .before .before .before .before .before .walk .last .1 .1 .1 .1 .1 .1 .1 .1 .0) (c .before .before .before .before .before .before .before .w .given .0 .0) (c .before .before .before .before .before .before .before .w .given .0 .1 .0) (c .before .before .before .before .before .before .before .w .given .0 .1 .1 .0) (c .before .before .before .before .before .before .before .w .given .0 .1 .1 .1 .0) (c .before .before .before .before .before .before .before .before .before .before .before .walk .ensures .1 .0 .1) (subst (λ (x : Walks). Walked (c .before .before .before .before .before .before .before .before .before .before .before .before .before .before .before .before .before .before .before .before .before .before .before .args .bytes .now) (c .before .before .before .before .before .before .before .before .before .before .before .before .before .before .before .before .before .before .before .before .before .before .before .pre .0 .block) (c .before .before .before .before .before .before .before .before .before .before .before .walk .last .1 .1 .1 .1 .1 .1 .1 .0) (c .before .before .before .before .before .before .before .before .before .before .before .walk .last .1 .1 .1 .1 .1 .1 .1 .1 .0) (saidWalks x)) (c .before .before .before .before .before .before .before .w .given .1) (c .before .before .before .before .before .before .before .before .before .before .before .walk .ensures .0 (c .before .before .before .before .before .before .before .before .before .before .before .before .before .before .before .before .before .before .before .before .before .before .before .args .kinds .now) (c .before .before .before .before .before .before .before .before .before .before .before .before .before .before .before .before .before .before .before .before .before .before .before .pre .0 .block) (c .before .before .before .before .before .before .before .before .before .before .before .before .before .before .before .before .before .before .before .before .before .before .before .pre .0 .holds .holding))))))
 
 say-requires : tie.Need-say-requires
 say-requires c κs =
-    (small _ (c .before .before .before .before .before .before .before .before .before .before .before .before .before .before .before .before .before .before .before .before .before .before .before .before .pre .0) (c .before .before .before .before .before .before .before .before .before .before .before .before .walk .last .1 .1 .1 .1 .1 .1 .1 .0) (c .before .before .before .before .before .before .before .before .before .before .before .before .walk .last .1 .1 .1 .1 .1 .1 .1 .1 .0) (c .before .before .before .before .before .before .before .before .w .given .0 .0) (c .before .before .before .before .before .before .before .before .w .given .0 .1 .0) (c .before .before .before .before .before .before .before .before .w .given .0 .1 .1 .0) (c .before .before .before .before .before .before .before .before .w .given .0 .1 .1 .1 .0) (subst (Walked (c .before .before .before .before .before .before .before .before .before .before .before .before .before .before .before .before .before .before .before .before .before .before .before .before .args .bytes .now) (c .before .before .before .before .before .before .before .before .before .before .before .before .before .before .before .before .before .before .before .before .before .before .before .before .pre .0 .block) (c .before .before .before .before .before .before .before .before .before .before .before .before .walk .last .1 .1 .1 .1 .1 .1 .1 .0) (c .before .before .before .before .before .before .before .before .before .before .before .before .walk .last .1 .1 .1 .1 .1 .1 .1 .1 .0)) (c .before .before .before .before .before .before .before .before .w .given .1) (c .before .before .before .before .before .before .before .before .before .before .before .before .walk .ensures .0 (c .before .before .before .before .before .before .before .before .before .before .before .before .before .before .before .before .before .before .before .before .before .before .before .before .args .kinds .now) (c .before .before .before .before .before .before .before .before .before .before .before .before .before .before .before .before .before .before .before .before .before .before .before .before .pre .0 .block) (c .before .before .before .before .before .before .before .before .before .before .before .before .before .before .before .before .before .before .before .before .before .before .before .before .pre .0 .holds .holding))))
+    (small _ (c .before .before .before .before .before .before .before .before .before .before .before .before .before .before .before .before .before .before .before .before .before .before .before .before .pre .0) (c .before .before .before .before .before .before .before .before .before .before .before .before .walk .last .1 .1 .1 .1 .1 .1 .1 .0) (c .before .before .before .before .before .before .before .before .before .before .before .before .walk .last .1 .1 .1 .1 .1 .1 .1 .1 .0) (c .before .before .before .before .before .before .before .before .w .given .0 .0) (c .before .before .before .before .before .before .before .before .w .given .0 .1 .0) (c .before .before .before .before .before .before .before .before .w .given .0 .1 .1 .0) (c .before .before .before .before .before .before .before .before .w .given .0 .1 .1 .1 .0) (subst (λ (x : Walks). Walked (c .before .before .before .before .before .before .before .before .before .before .before .before .before .before .before .before .before .before .before .before .before .before .before .before .args .bytes .now) (c .before .before .before .before .before .before .before .before .before .before .before .before .before .before .before .before .before .before .before .before .before .before .before .before .pre .0 .block) (c .before .before .before .before .before .before .before .before .before .before .before .before .walk .last .1 .1 .1 .1 .1 .1 .1 .0) (c .before .before .before .before .before .before .before .before .before .before .before .before .walk .last .1 .1 .1 .1 .1 .1 .1 .1 .0) (saidWalks x)) (c .before .before .before .before .before .before .before .before .w .given .1) (c .before .before .before .before .before .before .before .before .before .before .before .before .walk .ensures .0 (c .before .before .before .before .before .before .before .before .before .before .before .before .before .before .before .before .before .before .before .before .before .before .before .before .args .kinds .now) (c .before .before .before .before .before .before .before .before .before .before .before .before .before .before .before .before .before .before .before .before .before .before .before .before .pre .0 .block) (c .before .before .before .before .before .before .before .before .before .before .before .before .before .before .before .before .before .before .before .before .before .before .before .before .pre .0 .holds .holding))))
 
 same-length : tie.Need-same-length
 same-length c =
@@ -36,7 +37,7 @@ same-length c =
 
 returns : tie.Need-returns
 returns c =
-    (λ b h. too-much-work (c .before .before .before .before .before .before .before .before .before .before .before .before .before .before .before .before .args .bytes .now) b (c .before .before .before .before .walk .last .1 .1 .1 .1 .1 .1 .1 .0) (c .before .before .before .before .walk .last .1 .1 .1 .1 .1 .1 .1 .1 .0) (length (c .before .before .before .before .before .before .before .before .before .before .before .before .before .before .before .before .args .report .now)) (c .before .before .before .before .before .before .before .before .before .before .before .before .before .before .before .before .args .report .now) _ (subst (Walked (c .before .before .before .before .before .before .before .before .before .before .before .before .before .before .before .before .args .bytes .now) b (c .before .before .before .before .walk .last .1 .1 .1 .1 .1 .1 .1 .0) (c .before .before .before .before .walk .last .1 .1 .1 .1 .1 .1 .1 .1 .0)) (c .enum-told .given .1) (c .before .before .before .before .walk .ensures .0 (c .before .before .before .before .before .before .before .before .before .before .before .before .before .before .before .before .args .kinds .now) b (h .holding))) refl, c .before .before .before .before .walk .ensures .1 .1)
+    (λ b h. too-much-work (c .before .before .before .before .before .before .before .before .before .before .before .before .before .before .before .before .args .bytes .now) b (c .before .before .before .before .walk .last .1 .1 .1 .1 .1 .1 .1 .0) (c .before .before .before .before .walk .last .1 .1 .1 .1 .1 .1 .1 .1 .0) (length (c .before .before .before .before .before .before .before .before .before .before .before .before .before .before .before .before .args .report .now)) (c .before .before .before .before .before .before .before .before .before .before .before .before .before .before .before .before .args .report .now) _ (subst (λ (x : Walks). Walked (c .before .before .before .before .before .before .before .before .before .before .before .before .before .before .before .before .args .bytes .now) b (c .before .before .before .before .walk .last .1 .1 .1 .1 .1 .1 .1 .0) (c .before .before .before .before .walk .last .1 .1 .1 .1 .1 .1 .1 .1 .0) (saidWalks x)) (c .enum-told .given .1) (c .before .before .before .before .walk .ensures .0 (c .before .before .before .before .before .before .before .before .before .before .before .before .before .before .before .before .args .kinds .now) b (h .holding))) refl, c .before .before .before .before .walk .ensures .1 .1)
 
 same-length-2 : tie.Need-same-length-2
 same-length-2 c =
@@ -48,7 +49,7 @@ same-length-3 c =
 
 returns-2 : tie.Need-returns-2
 returns-2 c =
-    (λ b h. let found = (subst (Walked (c .before .before .before .before .before .before .before .before .before .before .before .before .before .before .before .before .before .before .before .before .before .before .before .before .before .before .before .args .bytes .now) b (c .before .before .before .before .before .before .before .before .before .before .before .before .before .before .before .walk .last .1 .1 .1 .1 .1 .1 .1 .0) (c .before .before .before .before .before .before .before .before .before .before .before .before .before .before .before .walk .last .1 .1 .1 .1 .1 .1 .1 .1 .0)) (c .before .before .before .before .before .before .before .before .before .before .before .w .given .1) (c .before .before .before .before .before .before .before .before .before .before .before .before .before .before .before .walk .ensures .0 (c .before .before .before .before .before .before .before .before .before .before .before .before .before .before .before .before .before .before .before .before .before .before .before .before .before .before .before .args .kinds .now) b (h .holding))) in reported _ b h (c .before .before .before .before .before .before .before .before .before .before .before .before .before .before .before .walk .last .1 .1 .1 .1 .1 .1 .1 .0) (c .before .before .before .before .before .before .before .before .before .before .before .before .before .before .before .walk .last .1 .1 .1 .1 .1 .1 .1 .1 .0) (c .before .before .before .before .before .before .before .before .before .before .before .w .given .0 .0) (c .before .before .before .before .before .before .before .before .before .before .before .w .given .0 .1 .0) (c .before .before .before .before .before .before .before .before .before .before .before .w .given .0 .1 .1 .0) (c .before .before .before .before .before .before .before .before .before .before .before .w .given .0 .1 .1 .1 .0) (length (c .before .before .before .before .before .before .before .before .before .before .before .before .before .before .before .before .before .before .before .before .before .before .before .before .before .before .before .args .report .now)) (c .before .before .say .result) (c .before .before .before .before .before .before .before .before .before .before .before .before .before .before .before .before .before .before .before .before .before .before .before .before .before .before .before .args .report .now) (c .before .before .say .last .1 .1 .1 .1 .1 .1 .1 .1 .1 .1 .1 .0) found (c .before .before .say .ensures (b .table) (findings b) (says _ b h (c .before .before .before .before .before .before .before .before .before .before .before .before .before .before .before .walk .last .1 .1 .1 .1 .1 .1 .1 .0) (c .before .before .before .before .before .before .before .before .before .before .before .before .before .before .before .walk .last .1 .1 .1 .1 .1 .1 .1 .1 .0) (c .before .before .before .before .before .before .before .before .before .before .before .w .given .0 .0) (c .before .before .before .before .before .before .before .before .before .before .before .w .given .0 .1 .0) (c .before .before .before .before .before .before .before .before .before .before .before .w .given .0 .1 .1 .0) (c .before .before .before .before .before .before .before .before .before .before .before .w .given .0 .1 .1 .1 .0) found)), c .before .before .before .before .before .before .before .before .before .before .before .before .before .before .before .walk .ensures .1 .1)
+    (λ b h. let found = (subst (λ (x : Walks). Walked (c .before .before .before .before .before .before .before .before .before .before .before .before .before .before .before .before .before .before .before .before .before .before .before .before .before .before .before .args .bytes .now) b (c .before .before .before .before .before .before .before .before .before .before .before .before .before .before .before .walk .last .1 .1 .1 .1 .1 .1 .1 .0) (c .before .before .before .before .before .before .before .before .before .before .before .before .before .before .before .walk .last .1 .1 .1 .1 .1 .1 .1 .1 .0) (saidWalks x)) (c .before .before .before .before .before .before .before .before .before .before .before .w .given .1) (c .before .before .before .before .before .before .before .before .before .before .before .before .before .before .before .walk .ensures .0 (c .before .before .before .before .before .before .before .before .before .before .before .before .before .before .before .before .before .before .before .before .before .before .before .before .before .before .before .args .kinds .now) b (h .holding))) in reported _ b h (c .before .before .before .before .before .before .before .before .before .before .before .before .before .before .before .walk .last .1 .1 .1 .1 .1 .1 .1 .0) (c .before .before .before .before .before .before .before .before .before .before .before .before .before .before .before .walk .last .1 .1 .1 .1 .1 .1 .1 .1 .0) (c .before .before .before .before .before .before .before .before .before .before .before .w .given .0 .0) (c .before .before .before .before .before .before .before .before .before .before .before .w .given .0 .1 .0) (c .before .before .before .before .before .before .before .before .before .before .before .w .given .0 .1 .1 .0) (c .before .before .before .before .before .before .before .before .before .before .before .w .given .0 .1 .1 .1 .0) (length (c .before .before .before .before .before .before .before .before .before .before .before .before .before .before .before .before .before .before .before .before .before .before .before .before .before .before .before .args .report .now)) (c .before .before .say .result) (c .before .before .before .before .before .before .before .before .before .before .before .before .before .before .before .before .before .before .before .before .before .before .before .before .before .before .before .args .report .now) (c .before .before .say .last .1 .1 .1 .1 .1 .1 .1 .1 .1 .1 .1 .0) found (c .before .before .say .ensures (b .table) (findings b) (says _ b h (c .before .before .before .before .before .before .before .before .before .before .before .before .before .before .before .walk .last .1 .1 .1 .1 .1 .1 .1 .0) (c .before .before .before .before .before .before .before .before .before .before .before .before .before .before .before .walk .last .1 .1 .1 .1 .1 .1 .1 .1 .0) (c .before .before .before .before .before .before .before .before .before .before .before .w .given .0 .0) (c .before .before .before .before .before .before .before .before .before .before .before .w .given .0 .1 .0) (c .before .before .before .before .before .before .before .before .before .before .before .w .given .0 .1 .1 .0) (c .before .before .before .before .before .before .before .before .before .before .before .w .given .0 .1 .1 .1 .0) found)), c .before .before .before .before .before .before .before .before .before .before .before .before .before .before .before .walk .ensures .1 .1)
 
 pub judged-spec : {M : Type 1} → statement M
 judged-spec =

@@ -2,9 +2,9 @@
 use mathlib.Core.Path.{ap, sym, _∙_}
 use Prim.Native.Nat.{ℕ}
 use native.Mathlib.Omega.{arith}
-use Rattle.answers.specs.declared.Answer.the-variants.{Report}
-use Rattle.answers.specs.Answer.{Outcome}
-use Rattle.answers.proofs.Answers.{fitted-in, fitted-over}
+use Rattle.scope.specs.declared.Answer.the-variants.{Report}
+use Rattle.scope.specs.Answer.{Outcome}
+use Rattle.scope.proofs.Answers.{fitted-in, fitted-over}
 use Rattle.numbers.proofs.fit.Statement.{statement}
 use Rattle.numbers.proofs.fit.Tie as tie
 

@@ -7,7 +7,7 @@ use native.Mathlib.Omega.{arith}
 use borrow.Author.Tests.{not-true, not-false}
 use lib.ListN.{length, getD, List·getD-eq-default}
 use Rattle.scope.specs.Lists.{all}
-use Rattle.scope.specs.Types.{isKnown}
+use Rattle.scope.specs.Finite.{isKnown}
 use Rattle.layout.specs.Places.{places, reads}
 use Rattle.layout.proofs.Loops.{all-on, all-off, all-end, reads-step, reads-end}
 use Rattle.sound.proofs.all_known.Statement.{statement}

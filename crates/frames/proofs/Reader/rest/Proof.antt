@@ -37,7 +37,8 @@ use denote.Triple.Walked.{says, Stays, stay-none, walkOf, goes-none, Walks, ends
 use denote.Exit.{yes}
 use denote.Triple.Clauses.{ensured, lasts}
 use Rattle.scope.specs.Frames as scope
-use Rattle.fields.specs.Places.{readAt}
+use Rattle.scope.specs.Blocks.{Step}
+use Rattle.fields.specs.Places.{saidRead, saidAt}
 use Rattle.frames.specs.Wholes.{whole}
 use Rattle.fields.specs.declared.Read.{Read}
 use Rattle.frames.specs.declared.Reader.{Reader}
@@ -63,8 +64,8 @@ module _ {M : Type 1} (𝓤 : URA M) (H : Heap 𝓤) (A : Atoms 𝓤) (mem : Mem
   Frame = tripleOf 𝓤 H A shape.signature (shape.spec 𝓤 H A mem run)
 
 module _ {M : Type 1} (𝓤 : URA M) (H : Heap 𝓤) (A : Atoms 𝓤) (W : Given 𝓤 H A) (mem : Memory → SProp 𝓤) (run : Routine → Fun 𝓤) (κ : Lft) (q : Share) (d : Reader) (k : ℕ) (k-fits : k < 2 ^ 8) where
-  abbrev found : Read
-  found = readAt (now (d .line)) (d .at) (λ bs. whole (scope.frame k bs))
+  abbrev found : Step (Unit {0}) × ℕ
+  found = saidAt (now (d .line)) (d .at) (λ bs. whole (scope.frame k bs))
 
   -- what the function is passed
   abbrev at : Vals rest.signature (κ, tt)
@@ -89,10 +90,10 @@ module _ {M : Type 1} (𝓤 : URA M) (H : Heap 𝓤) (A : Atoms 𝓤) (W : Given
       nothing ! $ owned ! u8 (Is u8) (uint-makes 𝓤 H A W w8) k _ (refl, k-fits) $ fjoin ! $ owned ! usize (Is usize) (uint-makes 𝓤 H A W w64) (d .at) _ (refl, fits) $ fjoin ! $ move ! (1 ∷ 0 ∷ []) $ fjoin ! $
       move ! (2 ∷ 0 ∷ []) $ use2 W (raw (Frame 𝓤 H A mem run .pre to)) (says-both 𝓤 H A W (onEntry 𝓤 H A shape.signature (κ, tt) (q, tt) (d .line, (d .at, (k, tt))) passed) within short) $ frame ! $ done !
 
-  said : (r : Read) → ent 𝓤 (ensured 𝓤 H A shape.ended (shape.clauses 𝓤 H A mem run) (κ, tt) (d .line, (d .at, (k, tt))) tt r) (fact 𝓤 (r ≡ found))
-  said r = exE 𝓤 _ (λ ws. snd∗ 𝓤 (sem 𝓤 H A (lasts shape.ended (κ, tt) (d .line, (d .at, (k, tt))) ws)) (fact 𝓤 (r ≡ found)))
+  said : (r : Read) → ent 𝓤 (ensured 𝓤 H A shape.ended (shape.clauses 𝓤 H A mem run) (κ, tt) (d .line, (d .at, (k, tt))) tt r) (fact 𝓤 (saidRead r ≡ found))
+  said r = exE 𝓤 _ (λ ws. snd∗ 𝓤 (sem 𝓤 H A (lasts shape.ended (κ, tt) (d .line, (d .at, (k, tt))) ws)) (fact 𝓤 (saidRead r ≡ found)))
 
-  exits : (r : Read) (u : Val) → r ≡ found → ent 𝓤 (⋆ 𝓤 H A (‵ (S.the-row .own r (u ∷ [])) ∷ (‵ (flft κ q) ⊛ ‵ ftrue) ∷ ‵ (Own κ d) ∷ [])) (Post u)
+  exits : (r : Read) (u : Val) → saidRead r ≡ found → ent 𝓤 (⋆ 𝓤 H A (‵ (S.the-row .own r (u ∷ [])) ∷ (‵ (flft κ q) ⊛ ‵ ftrue) ∷ ‵ (Own κ d) ∷ [])) (Post u)
   exits r u e =
       qed W (‵ (S.the-row .own r (u ∷ [])) ∷ (‵ (flft κ q) ⊛ ‵ ftrue) ∷ ‵ (Own κ d) ∷ []) ∵
       suffices ! _ (ends-at 𝓤 H A rest.ended stayed (rest.clauses 𝓤 H A mem run) W (((κ, tt), (q, tt), tt, (d, (k, tt)), at), tt) u r (tt, (tt, tt)) (tt, (tt, tt))) $ says ! e $
@@ -108,7 +109,7 @@ module _ {M : Type 1} (𝓤 : URA M) (H : Heap 𝓤) (A : Atoms 𝓤) (W : Given
         move ! (10 ∷ []) $ use1 W (raw (Frame 𝓤 H A mem run .pre to) ⊛ ‵ (Own κ d)) (apart (wt .1 .1 .0 .fits) within short) $ split ! $
         calls-at ! fm (Frame 𝓤 H A mem run) known to (and-then ! (load ! (from ! (stop !)) (look ! 4 refl)) (and-then ! (load ! (from ! (stop !)) (look ! 2 refl)) (and-then ! (load ! (from ! (stop !)) (look ! 6 refl)) (no-more !)))) (λ u.
         use1 W (later (some (λ (r : Read). ((‵ (flft κ q) ⊛ ‵ ftrue) ⊛ ‵ (S.the-row .own r (u ∷ []))) ⊛ raw (ensured 𝓤 H A shape.ended (shape.clauses 𝓤 H A mem run) (κ, tt) (d .line, (d .at, (k, tt))) tt r)))) (id⊢ 𝓤 _) $ await ! tt $ pick ! (λ r.
-        split ! $ move ! (1 ∷ []) $ use1 W (raw (fact 𝓤 (r ≡ found))) (said r) $ heard ! (r ≡ found) (λ e. split ! $ move ! (1 ∷ []) $
+        split ! $ move ! (1 ∷ []) $ use1 W (raw (fact 𝓤 (saidRead r ≡ found))) (said r) $ heard ! (saidRead r ≡ found) (λ e. split ! $ move ! (1 ∷ []) $
         -- [the result; the token; what the reader owns; _4; …; _3; …; _2; …; _1; …; room for _0; …]
         peeks ! S.the-row (Is S.the-row) (shows 𝓤 H A S.the-row) r (u ∷ []) (λ is.
         land ! (from ! (stop !)) (init ! 11 refl (EL.lawful S.the-type S′.the-laws 𝓤 H A W tt .typed r _ is .0)) $

@@ -5,6 +5,7 @@ use Rattle.scope.specs.Frames.{frame}
 use Rattle.fields.specs.Places.{readAt}
 use Rattle.frames.proofs.Wholes.{held-type, held-constructor, held-subject, held-clause, held-end, held-none}
 use native.Mathlib.Omega.{arith}
+use Rattle.fields.proofs.Readers.{told}
 use Rattle.frames.proofs.shape.held.Statement.{statement}
 use Rattle.frames.proofs.shape.held.Tie as tie
 
@@ -26,19 +27,19 @@ patterns-requires c κs =
 
 returns : tie.Need-returns
 returns c =
-    held-type (c .before .before .before .args .bytes .now) (c .before .before .before .args .at) (c .type-frame .result) (c .type-frame .ensures) ∙ ap (λ (k : ℕ). readAt (c .before .before .before .args .bytes .now) (c .before .before .before .args .at) (frame k)) (sym (c .before .match .keys1))
+    held-type (c .before .before .before .args .bytes .now) (c .before .before .before .args .at) (c .type-frame .result) (told _ _ (c .type-frame .result) (c .type-frame .ensures)) ∙ ap (λ (k : ℕ). readAt (c .before .before .before .args .bytes .now) (c .before .before .before .args .at) (frame k)) (sym (c .before .match .keys1))
 
 returns-2 : tie.Need-returns-2
 returns-2 c =
-    held-constructor (c .before .before .before .args .bytes .now) (c .before .before .before .args .at) (c .constructor-frame .result) (c .constructor-frame .ensures) ∙ ap (λ (k : ℕ). readAt (c .before .before .before .args .bytes .now) (c .before .before .before .args .at) (frame k)) (sym (c .before .match .keys2))
+    held-constructor (c .before .before .before .args .bytes .now) (c .before .before .before .args .at) (c .constructor-frame .result) (told _ _ (c .constructor-frame .result) (c .constructor-frame .ensures)) ∙ ap (λ (k : ℕ). readAt (c .before .before .before .args .bytes .now) (c .before .before .before .args .at) (frame k)) (sym (c .before .match .keys2))
 
 returns-3 : tie.Need-returns-3
 returns-3 c =
-    held-subject (c .before .before .before .args .bytes .now) (c .before .before .before .args .at) (c .byte .result) (c .byte .ensures) ∙ ap (λ (k : ℕ). readAt (c .before .before .before .args .bytes .now) (c .before .before .before .args .at) (frame k)) (sym (c .before .match .keys3))
+    held-subject (c .before .before .before .args .bytes .now) (c .before .before .before .args .at) (c .byte .result) (told _ _ (c .byte .result) (c .byte .ensures)) ∙ ap (λ (k : ℕ). readAt (c .before .before .before .args .bytes .now) (c .before .before .before .args .at) (frame k)) (sym (c .before .match .keys3))
 
 returns-4 : tie.Need-returns-4
 returns-4 c =
-    held-clause (c .before .before .before .args .bytes .now) (c .before .before .before .args .at) (c .patterns .result) (c .patterns .ensures) ∙ ap (λ (k : ℕ). readAt (c .before .before .before .args .bytes .now) (c .before .before .before .args .at) (frame k)) (sym (c .before .match .keys4))
+    held-clause (c .before .before .before .args .bytes .now) (c .before .before .before .args .at) (c .patterns .result) (told _ _ (c .patterns .result) (c .patterns .ensures)) ∙ ap (λ (k : ℕ). readAt (c .before .before .before .args .bytes .now) (c .before .before .before .args .at) (frame k)) (sym (c .before .match .keys4))
 
 returns-5 : tie.Need-returns-5
 returns-5 c =
