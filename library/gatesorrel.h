@@ -5,8 +5,8 @@
 #include <stddef.h>
 #include <stdint.h>
 
-/* The sizes that are always enough: a longer file is refused with 2, a shorter scratch with 1, and a report that is longer than
-   its buffer with 11. */
+/* The sizes that the program lends. A longer file is refused with 2, a shorter scratch with 1. A report that is longer than its
+   buffer is refused with 11: a larger buffer takes it. */
 #define GATESORREL_FILE 49152
 #define GATESORREL_SCRATCH 16384
 #define GATESORREL_REPORT 32768
