@@ -8,6 +8,7 @@ use Rattle.scope.specs.declared.Answer.the-variants.{Report, Refused}
 use Rattle.scope.specs.Lists.{Text, bytes}
 use Rattle.scope.specs.Limits.{scratchCells, reportBytes}
 use Rattle.scope.specs.Lines.{lines}
+use Rattle.scope.specs.SmallBlocks.{documentBlock}
 use Rattle.refusals.specs.Refusals.{Refuses, Reports}
 use Rattle.refusals.specs.Exactly.{AtLine}
 use Rattle.promises.specs.Mission.{Mission}
@@ -20,13 +21,13 @@ lent = replicate scratchCells 0
 unfoldable pub lentBuffer : List ℕ
 lentBuffer = replicate reportBytes 0
 
--- document 01's own block: a list of Red or Blue; clauses [], [Red, ..], []
+-- document 01's own block
 abbrev pub example : List ℕ
-example = bytes "010301\n0106\n02035265640000\n0204426c75650000\n0300\n04050000\n040501010600000000\n04050000\n05\n"
+example = bytes (documentBlock .file)
 
 -- and what document 01 prints for it
 abbrev pub exampleText : Text
-exampleText = bytes "clauses 3 reached 2 never 1\nclause 1 reached\nclause 2 reached\nclause 3 never\ngaps 1\nmissing [Blue, ..]\npaste [Blue, ..]\ncalls 5 4\n"
+exampleText = bytes (documentBlock .prints)
 
 -- a file for which 10 is due: two clauses alike, with over 16,384 cells held by open calls
 abbrev pub heavy : List ℕ

@@ -1,8 +1,8 @@
--- Document 01's table "What is refused, and when": one row a constructor of `Refuses`, the document's row above it; 4, which has two places in the order,
--- and 5, which has a line of its own where no end is there, have two each. No test of `scope` decides a row. What a premise calls says what was read:
--- `bytesOf` the bytes of a line, two digits each; `typeAt`, `fieldsAt`, `refs`, `lastDeclared`, `ctorCount` and `addCtor` the types as far as they are
--- declared. 7 asks for values (`Valued`). For 9 to 11 the document itself speaks of the simplified clauses (`simplify`, `nodesIn`), of the walks as the
--- source would run them (`findings`) and of the report (`report`).
+-- Document 01's table "What is refused, and when": one row a constructor of `Refuses`, the document's row above it; 4, which has two places in the order, and
+-- 5, which has a line of its own where no end is there, have two each. No test of `scope` decides a row. What a premise calls says what was read: `bytesOf`
+-- the bytes of a line, two digits each; `typeAt`, `fieldsAt`, `refs`, `lastDeclared`, `ctorCount` and `addCtor` the types as far as they are declared. 7 asks
+-- for values (`Valued`), of which a byte string is one whose elements are below 256. For 9 to 11 the document itself speaks of the simplified clauses
+-- (`simplify`, `nodesIn`), of the walks as the source would run them (`findings`) and of the report (`report`).
 use mathlib.Core.List.{List, [], _∷_, _++_}
 use mathlib.Core.Path.{_≡_}
 use mathlib.Core.Option.{some}

@@ -23,6 +23,13 @@ abbrev pub AllPrinted : List Example → Type 0
 AllPrinted [] = Unit {0}
 AllPrinted (e ∷ es) = (programPrints (bytes (e .file)) ≡ bytes (e .prints)) × AllPrinted es
 
+-- the block that document 01 shows with its report
+abbrev pub documentBlock : Example
+documentBlock = record {
+  file = "010301\n0106\n02035265640000\n0204426c75650000\n0300\n04050000\n040501010600000000\n04050000\n05\n";
+  prints = "clauses 3 reached 2 never 1\nclause 1 reached\nclause 2 reached\nclause 3 never\ngaps 1\nmissing [Blue, ..]\npaste [Blue, ..]\ncalls 5 4\n";
+}
+
 -- Subject; clauses. P1 for an integer
 abbrev pub smallBlocks : List Example
 smallBlocks =
@@ -72,10 +79,7 @@ smallBlocks =
       prints = "clauses 1 reached 1 never 0\nclause 1 reached\ngaps 1\nmissing (_)\npaste My__Tuple(_)\ncalls 1 2\n";
     } ∷
     -- P10: a list of Red or Blue; [], [Red, ..], []
-    record {
-      file = "010301\n0106\n02035265640000\n0204426c75650000\n0300\n04050000\n040501010600000000\n04050000\n05\n";
-      prints = "clauses 3 reached 2 never 1\nclause 1 reached\nclause 2 reached\nclause 3 never\ngaps 1\nmissing [Blue, ..]\npaste [Blue, ..]\ncalls 5 4\n";
-    } ∷
+    documentBlock ∷
     []
 
 -- P1's report: gaps 1, `_`, calls 0 1
