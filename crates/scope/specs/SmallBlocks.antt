@@ -23,7 +23,21 @@ abbrev pub AllPrinted : List Example → Type 0
 AllPrinted [] = Unit {0}
 AllPrinted (e ∷ es) = (programPrints (bytes (e .file)) ≡ bytes (e .prints)) × AllPrinted es
 
--- the block that document 01 shows with its report
+-- P4: a pair of T; (_, A)
+abbrev pub P4 : Example
+P4 = record {
+  file = "0106\n0201410000\n0201420000\n01050000\n0301\n04070006000000\n05\n";
+  prints = "clauses 1 reached 1 never 0\nclause 1 reached\ngaps 1\nmissing (_, B)\npaste (_, B)\ncalls 1 4\n";
+}
+
+-- P5: a pair of T; (_, A), (A, A)
+abbrev pub P5 : Example
+P5 = record {
+  file = "0106\n0201410000\n0201420000\n01050000\n0301\n04070006000000\n04070600000006000000\n05\n";
+  prints = "clauses 2 reached 1 never 1\nclause 1 reached\nclause 2 never\ngaps 1\nmissing (B, B)\npaste (B, B)\ncalls 5 4\n";
+}
+
+-- P10: the block that document 01 shows with its report, a list of Red or Blue; [], [Red, ..], []
 abbrev pub documentBlock : Example
 documentBlock = record {
   file = "010301\n0106\n02035265640000\n0204426c75650000\n0300\n04050000\n040501010600000000\n04050000\n05\n";
@@ -48,16 +62,8 @@ smallBlocks =
       file = "0100\n0300\n04030131\n0400\n04030132\n05\n";
       prints = "clauses 3 reached 2 never 1\nclause 1 reached\nclause 2 reached\nclause 3 never\ngaps 0\ncalls 5 2\n";
     } ∷
-    -- P4: a pair of T; (_, A)
-    record {
-      file = "0106\n0201410000\n0201420000\n01050000\n0301\n04070006000000\n05\n";
-      prints = "clauses 1 reached 1 never 0\nclause 1 reached\ngaps 1\nmissing (_, B)\npaste (_, B)\ncalls 1 4\n";
-    } ∷
-    -- P5: a pair of T; (_, A), (A, A)
-    record {
-      file = "0106\n0201410000\n0201420000\n01050000\n0301\n04070006000000\n04070600000006000000\n05\n";
-      prints = "clauses 2 reached 1 never 1\nclause 1 reached\nclause 2 never\ngaps 1\nmissing (B, B)\npaste (B, B)\ncalls 5 4\n";
-    } ∷
+    P4 ∷
+    P5 ∷
     -- P6: a list; [], [_]
     record {
       file = "0100\n010300\n0301\n04050000\n0405010000\n05\n";
@@ -78,7 +84,6 @@ smallBlocks =
       file = "0100\n0106\n02014e0000\n02094d795f5f5475706c65000100\n0301\n0406000000\n05\n";
       prints = "clauses 1 reached 1 never 0\nclause 1 reached\ngaps 1\nmissing (_)\npaste My__Tuple(_)\ncalls 1 2\n";
     } ∷
-    -- P10: a list of Red or Blue; [], [Red, ..], []
     documentBlock ∷
     []
 
