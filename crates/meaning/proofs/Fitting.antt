@@ -80,7 +80,8 @@ pub literal-self : (l : Literal) → literalFits l (valueOf l) ≡ true
 literal-self (int t) = whole-self (denotes t)
 literal-self (byteArray t) = same-self t
 
-same-bool : (a b : Bool) → (a ≡ true → b ≡ true) → (b ≡ true → a ≡ true) → a ≡ b
+-- tests that pass together are the same
+pub same-bool : (a b : Bool) → (a ≡ true → b ≡ true) → (b ≡ true → a ≡ true) → a ≡ b
 same-bool true b f g = sym (f refl)
 same-bool false true f g = g refl
 same-bool false false f g = refl

@@ -13,3 +13,7 @@ pub mod Promised
 pub mod Shape
 pub mod Renamed
 pub mod Trailing
+pub mod Untold
+pub mod Members
+pub mod Order
+pub mod NoMore

@@ -1,5 +1,5 @@
 -- What a file says is sound: the table has passed refusal 7's test, and every clause is a pattern of the subject's type with literals as a file has them.
-use mathlib.Core.Path.{_≡_, refl}
+use mathlib.Core.Path.{_≡_, refl, sym, _∙_}
 use mathlib.Core.List.{List, [], _∷_, _++_}
 use mathlib.Core.Bool.{Bool, true, false, cond}
 use mathlib.Core.Option.{Option, none, some}
@@ -14,7 +14,7 @@ use Rattle.scope.specs.Patterns.{Raw}
 use Rattle.scope.specs.Simplify.{Row, Matrix, simplify}
 use Rattle.laws.specs.Typed.{Typed, TypedRows, noRows, also}
 use Rattle.scope.specs.Frames.{Read, fault, found, andThen, give, byte, typeFrame, constructorFrame, patterns, Frame, typeOf, constructorOf, subjectOf, clauseOf, end, isKind, frame}
-use Rattle.scope.specs.Blocks.{Block, Phase, types, constructors, clauses, closed, standing, State, start, Step, ok, refuse, _>>=_, need, wholly, suited, nodesIn, stands, hasRoom, isFresh, isSound, enter, framed, lineStep, parsed, finish, goOn, parse, blockOf}
+use Rattle.scope.specs.Blocks.{Block, Phase, types, constructors, clauses, closed, standing, State, start, Step, ok, refuse, _>>=_, need, wholly, suited, nodesIn, stands, hasRoom, isFresh, isSound, enter, framed, lineStep, Parsed, parsed, finish, goOn, parse, blockOf}
 use Rattle.meaning.specs.Values.{isByte, admits}
 use Rattle.scope.proofs.Tests.{clash, both, and-true}
 use Rattle.laws.proofs.Typing.{simplify-typed}
@@ -148,3 +148,7 @@ parse-good (l ∷ ls) k s b h e = go (lineStep s l) (line-kept s l h) e (λ s′
 pub block-good : (ls : List Line) (b : Block) → blockOf ls ≡ parsed b → Good b
 unfolding blockOf
 block-good ls b e = parse-good ls 1 start b tt e
+
+-- the block that a file says is one
+pub same-block : {p : Parsed} {a b : Block} → p ≡ parsed a → p ≡ parsed b → a ≡ b
+same-block {a = a} {b = b} i j = let e : parsed a ≡ parsed b = sym i ∙ j in cc

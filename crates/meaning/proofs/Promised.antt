@@ -143,9 +143,13 @@ block-promises file b e good = record {
         let v = judged-at (b .table) [] (b .rows) i l in
         (λ h. u .0 (sym v ∙ h), λ w. v ∙ u .1 w)
 
+-- a file that says a block has them, with a report or without
+pub said-promises : (file : List ℕ) (b : Block) → blockOf (lines file) ≡ parsed b → Promises file
+said-promises file b e = block-promises file b e (block-good (lines file) b e)
+
 pub promises : Promised
 unfolding answer
-promises file cells room n h = let o = outcome-behind file cells room n h in block-promises file (o .block) (o .says) (block-good (lines file) (o .block) (o .says))
+promises file cells room n h = let o = outcome-behind file cells room n h in said-promises file (o .block) (o .says)
 
 counted : (b : Block) → yeses (verdicts b) + noes (verdicts b) ≡ length (b .rows)
 unfolding findings

@@ -9,7 +9,7 @@ use Rattle.scope.specs.declared.Answer.{Answer}
 use Rattle.scope.specs.declared.Answer.the-variants.{Report, Refused}
 use Rattle.scope.specs.Lines.{lines}
 use Rattle.scope.specs.Types.{Table}
-use Rattle.scope.specs.Blocks.{Block, Parsed, parsed, blockOf}
+use Rattle.scope.specs.Blocks.{Block, parsed, blockOf}
 use Rattle.scope.specs.Driver.{Findings, findings}
 use Rattle.scope.specs.Report.{report}
 use Rattle.scope.specs.Answer.{said, answer, reportText, bufferAfter, scratchAfter}
@@ -18,6 +18,7 @@ use Rattle.promises.specs.Clauses.{Demand3}
 use Rattle.promises.specs.Mission.{Reporting, Answered, aReport, aRefusal, Mission}
 use Rattle.scope.proofs.Answers.{scratch-zero, scratch-length}
 use Rattle.scope.proofs.Refusals.{refused-keeps, report-fills}
+use Rattle.meaning.proofs.Parsing.{same-block}
 use Rattle.meaning.proofs.Promised.{promises, reported}
 use Rattle.refusals.proofs.Answered.{refused-exactly, report-exactly, whole-block}
 use Rattle.agreement.proofs.Raws.{clausesIn}
@@ -27,10 +28,6 @@ use Rattle.promises.proofs.Promised.{demand3}
 use Rattle.promises.proofs.Said.{words}
 use Rattle.promises.proofs.Listed.{one-text}
 
--- the block that a file says is one
-pub same-block : {p : Parsed} {a b : Block} → p ≡ parsed a → p ≡ parsed b → a ≡ b
-same-block {a = a} {b = b} i j = let e : parsed a ≡ parsed b = sym i ∙ j in cc
-
 module _ (file : List ℕ) (cells : ℕ) (buffer : List ℕ) where
   -- a report's text is what its block says
   text-is : (n : ℕ) (b : Block) → blockOf (lines file) ≡ parsed b → answer file cells (length buffer) ≡ Report n → reportText file cells (length buffer) ≡ report (b .table) (findings b)
@@ -38,7 +35,7 @@ module _ (file : List ℕ) (cells : ℕ) (buffer : List ℕ) where
       let q = reported file cells (length buffer) n e in
       q .text ∙ ap (λ (x : Block). report (x .table) (findings x)) (same-block (q .says) i)
 
-  reporting : (n : ℕ) → answer file cells (length buffer) ≡ Report n → Reporting file buffer cells n (bufferAfter file cells buffer)
+  pub reporting : (n : ℕ) → answer file cells (length buffer) ≡ Report n → Reporting file buffer cells n (bufferAfter file cells buffer)
   reporting n e =
       let due = report-exactly file cells (length buffer) n .0 e in
       let i = whole-block (due .whole) in

@@ -4,7 +4,7 @@ use mathlib.Core.List.{List, [], _∷_}
 use mathlib.Core.Bool.{Bool, true, false}
 use mathlib.Core.Option.{some}
 use mathlib.Core.Logic.{_⊎_, inl, inr, _↔_}
-use Prim.Native.Nat.{ℕ, zero, suc, _-_, _<_}
+use Prim.Native.Nat.{ℕ, zero, suc, _<_}
 use native.Mathlib.Nat.{le-of-suc-le-suc, not-suc-le-zero}
 use native.Mathlib.Omega.{arith}
 use lib.ListN.{length, getD, take}
@@ -14,6 +14,7 @@ use Rattle.scope.specs.Lines.{lines}
 use Rattle.scope.specs.Types.{Ref, Table}
 use Rattle.scope.specs.Patterns.{Raw}
 use Rattle.scope.specs.Simplify.{Row, Matrix, simplify}
+use Rattle.scope.specs.Blocks.{Block, parsed, blockOf}
 use Rattle.scope.specs.Driver.{verdicts, gaps}
 use Rattle.meaning.specs.Values.{Val, Vals, []ᵛ, _∷ᵛ_, HasTypes, fits, fitsAny, isPlain}
 use Rattle.meaning.specs.Meaning.{Witness}
@@ -53,11 +54,11 @@ fits-any (r ∷ m) vs zero l h = or-left (fitsAny m vs) h
 fits-any (r ∷ m) vs (suc i) l h = or-right (fits r vs) (fits-any m vs i (le-of-suc-le-suc l) h)
 
 -- clause by clause
-same-many : {table : Table} {t : Ref} {raws : List (List Raw)} {m : Matrix} → Simplifies table t raws m → length m ≡ length raws
+pub same-many : {table : Table} {t : Ref} {raws : List (List Raw)} {m : Matrix} → Simplifies table t raws m → length m ≡ length raws
 same-many no-clauses = refl
 same-many (also-clause e k) = ap suc (same-many k)
 
-row-of : {table : Table} {t : Ref} {raws : List (List Raw)} {m : Matrix} → Simplifies table t raws m → (i : ℕ) → i < length raws → simplify table t (getD raws i []) ≡ some (getD m i [])
+pub row-of : {table : Table} {t : Ref} {raws : List (List Raw)} {m : Matrix} → Simplifies table t raws m → (i : ℕ) → i < length raws → simplify table t (getD raws i []) ≡ some (getD m i [])
 row-of no-clauses i l = absurd (not-suc-le-zero l)
 row-of (also-clause e k) zero l = e
 row-of (also-clause e k) (suc i) l = row-of k i (le-of-suc-le-suc l)
@@ -72,10 +73,14 @@ rows-plain {table} {t} (also-clause {ps = ps} {raws = raws} {r = r} e k) h =
     let w = both (all noLiteral ps) (all (all noLiteral) raws) h in
     and-true (row-plain table t ps r (w .0) e) (rows-plain k (w .1))
 
+-- the rows of a block are the file's own clauses, simplified
+pub made-from : (file : List ℕ) (b : Block) → blockOf (lines file) ≡ parsed b → (clauses : List (List Raw)) → ClausesOf file clauses → Simplifies (b .table) (b .subject) clauses (b .rows)
+made-from file b e clauses own = subst (λ (x : List (List Raw)). Simplifies (b .table) (b .subject) x (b .rows)) (clauses-exactly file clauses .1 own) (block-sound (lines file) b e .rows)
+
 -- the promises of a block, over the clauses it is made of
 module _ (file : List ℕ) (p : Promises file) (clauses : List (List Raw)) (own : ClausesOf file clauses) where
   made-of : Simplifies (p .block .table) (p .block .subject) clauses (p .block .rows)
-  made-of = subst (λ (x : List (List Raw)). Simplifies (p .block .table) (p .block .subject) x (p .block .rows)) (clauses-exactly file clauses .1 own) (block-sound (lines file) (p .block) (p .says) .rows)
+  made-of = made-from file (p .block) (p .says) clauses own
 
   many : length (p .block .rows) ≡ length clauses
   many = same-many made-of
