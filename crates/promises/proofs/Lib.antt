@@ -1,4 +1,4 @@
--- That a check with the definitions' answer meets the mission, that the mission fixes that answer, and what it shuts out.
+-- That a check with the definitions' answer meets the mission, that the mission fixes that answer, what it shuts out, and request 13.
 pub mod Own
 pub mod Promised
 pub mod Clean
@@ -6,3 +6,5 @@ pub mod Said
 pub mod Listed
 pub mod Meets
 pub mod Excluded
+pub mod Heads
+pub mod Reviews

@@ -5,7 +5,7 @@ use mathlib.Core.Logic.{_↔_}
 use Prim.Native.Nat.{ℕ, zero, suc, _+_, _<_}
 use native.Mathlib.Nat.{le-of-suc-le-suc, not-suc-le-zero}
 use native.Mathlib.Omega.{arith}
-use lib.ListN.{length, getD, drop, length-append}
+use lib.ListN.{length, getD, drop, length-append, List·getD-append}
 use Rattle.scope.specs.Lists.{Text, bytes}
 use Rattle.scope.specs.Lines.{Line, ended}
 use Rattle.scope.specs.Types.{Table}
@@ -46,7 +46,7 @@ last-append (a ∷ []) c s = refl
 last-append (a ∷ b ∷ x) c s = last-append (b ∷ x) c s
 
 -- the two words differ in their last byte
-words-differ : (a b : ℕ) → reachedText a ≡ neverText b → ⊥
+pub words-differ : (a b : ℕ) → reachedText a ≡ neverText b → ⊥
 words-differ a b e =
     let x : lastOf (reachedText a) ≡ 100 = last-append (bytes "clause " ++ decimal a) 32 (bytes "reached") in
     let y : lastOf (neverText b) ≡ 114 = last-append (bytes "clause " ++ decimal b) 32 (bytes "never") in
@@ -54,7 +54,7 @@ words-differ a b e =
 
 module _ {clauses : List (List Raw)} {b : Block} where
   -- one line a clause
-  verdicts-many : {i r n : ℕ} {ls : List Text} → Verdicts clauses b i r n ls → i + length ls ≡ length clauses
+  pub verdicts-many : {i r n : ℕ} {ls : List Text} → Verdicts clauses b i r n ls → i + length ls ≡ length clauses
   verdicts-many Verdicts.done = omega arith
   verdicts-many (Verdicts.reached x more) = omega (arith, verdicts-many more)
   verdicts-many (Verdicts.never x more) = omega (arith, verdicts-many more)
@@ -71,16 +71,23 @@ module _ {clauses : List (List Raw)} {b : Block} where
   verdict-at {i} (Verdicts.reached x more) (suc p) k l = further i p k (verdict-at more p k (le-of-suc-le-suc l))
   verdict-at {i} (Verdicts.never x more) (suc p) k l = further i p k (verdict-at more p k (le-of-suc-le-suc l))
 
+-- the line about clause i says what is so
+pub data Told (clauses : List (List Raw)) (b : Block) (i : ℕ) : Text → Type 0 where
+  asReached : Reached clauses b i → Told clauses b i (reachedText (suc i))
+  asNever : Unreached clauses b i → Told clauses b i (neverText (suc i))
+
+line-told : {clauses : List (List Raw)} {b : Block} {i r n : ℕ} {ls : List Text} → Verdicts clauses b i r n ls → (p : ℕ) → p < length ls → Told clauses b (i + p) (getD ls p [])
+line-told Verdicts.done p l = absurd (not-suc-le-zero l)
+line-told {clauses} {b} {i} (Verdicts.reached x more) zero l = subst (λ (k : ℕ). Told clauses b k (reachedText (suc i))) (omega arith) (asReached x)
+line-told {clauses} {b} {i} (Verdicts.never u more) zero l = subst (λ (k : ℕ). Told clauses b k (neverText (suc i))) (omega arith) (asNever u)
+line-told {clauses} {b} {i} (Verdicts.reached {ls = ls} x more) (suc p) l = subst (λ (k : ℕ). Told clauses b k (getD ls p [])) (omega arith) (line-told more p (le-of-suc-le-suc l))
+line-told {clauses} {b} {i} (Verdicts.never {ls = ls} u more) (suc p) l = subst (λ (k : ℕ). Told clauses b k (getD ls p [])) (omega arith) (line-told more p (le-of-suc-le-suc l))
+
 -- a line that is in front of others, none of which is it
 in-front : (t : Text) (ls rest : List Text) → ((q : ℕ) → getD rest q [] ≡ t → ⊥) → (p : ℕ) → getD (ls ++ rest) p [] ≡ t → (p < length ls) × (getD ls p [] ≡ t)
 in-front t [] rest h p e = absurd (h p e)
 in-front t (l ∷ ls) rest h zero e = (omega arith, e)
 in-front t (l ∷ ls) rest h (suc p) e = let w = in-front t ls rest h p e in (omega (arith, w .0), w .1)
-
-at-front : (ls rest : List Text) (p : ℕ) → p < length ls → getD (ls ++ rest) p [] ≡ getD ls p []
-at-front [] rest p l = absurd (not-suc-le-zero l)
-at-front (l ∷ ls) rest zero h = refl
-at-front (l ∷ ls) rest (suc p) h = at-front ls rest p (le-of-suc-le-suc h)
 
 -- the other lines begin otherwise
 module _ (k : ℕ) where
@@ -100,6 +107,12 @@ module _ (k : ℕ) where
 
   count-not : (all reached never : ℕ) → countText all reached never ≡ neverText k → ⊥
   count-not all reached never e = let i : _≡_ {A = ℕ} 115 32 = ap (λ (t : Text). getD t 6 0) e in omega arith
+
+pub clause-told : {clauses : List (List Raw)} {b : Block} {text : Text} (w : Words clauses b text) (i : ℕ) → i < length clauses → Told clauses b i (getD (w .texts) (suc i) [])
+clause-told {clauses} {b} w i l =
+    let k : i < length (w .verdictTexts) = omega (arith, verdicts-many (w .each)) in
+    let e = ap (λ (ls : List Text). getD ls (suc i) []) (w .whole) ∙ List·getD-append (w .verdictTexts) _ [] i k in
+    subst (Told clauses b i) (sym e) (subst (λ (n : ℕ). Told clauses b n (getD (w .verdictTexts) i [])) (omega arith) (line-told (w .each) i k))
 
 -- line j of a report, counted from 0, is `clause k + 1 never` exactly when j is k + 1 and no value reaches clause k
 never-exactly : {clauses : List (List Raw)} {b : Block} {text : Text} (w : Words clauses b text) (k j : ℕ) → (getD (w .texts) j [] ≡ neverText (suc k)) ↔ ((j ≡ suc k) × Unreached clauses b k)
@@ -127,7 +140,7 @@ never-exactly {clauses} {b} w k j = rw (w .whole) (to j, back)
     back : (j ≡ suc k) × Unreached clauses b k → getD lines j [] ≡ neverText (suc k)
     back h =
         let l : k < length (w .verdictTexts) = omega (arith, verdicts-many (w .each), h .1 .within) in
-        rw (h .0) (at-front (w .verdictTexts) after k l ∙ verdict-at (w .each) k k l .1 (omega arith, h .1))
+        rw (h .0) (List·getD-append (w .verdictTexts) after [] k l ∙ verdict-at (w .each) k k l .1 (omega arith, h .1))
 
 -- two texts of the same lines are the same
 cuts-once : {s t : Text} {ls : List Line} → Cuts s ls → Cuts t ls → s ≡ t

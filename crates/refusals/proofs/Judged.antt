@@ -75,7 +75,7 @@ same-kind {l} {k} {j} {bs} {cs} a b = let e : k ∷ bs ≡ j ∷ cs = sym (a .fi
 holds-at : {l : Line} {k : ℕ} {bs : List ℕ} {f : Frame} → Kind l k bs → Says l f → frame k bs ≡ found f []
 holds-at a s = let w = same-kind a (s .first) in rw (w .0, w .1) (frame-finds (s .holds))
 
-says-same : {l : Line} {f g : Frame} → Says l f → Says l g → f ≡ g
+pub says-same : {l : Line} {f g : Frame} → Says l f → Says l g → f ≡ g
 says-same {l} {f} {g} s t = let e : found f [] ≡ found g [] = sym (frame-finds (s .holds)) ∙ holds-at (s .first) t in cc
 
 other-kind : {l : Line} {k : ℕ} {bs : List ℕ} (P : ℕ → Type 0) → Kind l k bs → (P k → ⊥) → KindIs P l → ⊥
