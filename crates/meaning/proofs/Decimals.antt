@@ -196,6 +196,10 @@ pub numbers-say : NumbersSay
 unfolding written
 numbers-say n = written-right (plus n)
 
+-- a number's text names it
+pub decimal-names : (a b : ℕ) → decimal a ≡ decimal b → a ≡ b
+decimal-names a b e = let i : plus a ≡ plus b = sym (numbers-say a .1) ∙ ap denotes e ∙ numbers-say b .1 in cc
+
 pub decimal-once : DecimalOnce
 decimal-once n =
     let p = written-right n in

@@ -42,7 +42,7 @@ any-passes p (x ∷ l) h = go (either (p x) (any p l) h) (any-passes p l)
 moved : {A : Type 0} {l k : List A} → SameMembers l k → (p : A → Bool) → any p l ≡ true → any p k ≡ true
 moved {l = l} {k = k} s p h = let w = any-passes p l h in passes-any p k (record { one = w .one; member = s .there (w .one) (w .member); passed = w .passed })
 
-pub same-untold : {m n : Matrix} → SameMembers m n → Untold m n
+same-untold : {m n : Matrix} → SameMembers m n → Untold m n
 same-untold {m} {n} s = record { tests = λ p. same-bool (any p m) (any p n) (moved s p) (moved (turned-members s) p) }
 
 fits-some : (m : Matrix) (vs : Vals) → fitsAny m vs ≡ any (λ r. fits r vs) m

@@ -1,7 +1,7 @@
 -- Rows that no test tells apart are missed alike: the missing walk finds the same rows in as many calls, from its one-step law.
 use mathlib.Core.Path.{_≡_, refl, ap, ap₂, sym, _∙_}
 use mathlib.Core.List.{List, [], _∷_, _++_, map}
-use mathlib.Core.Bool.{Bool, true, false, cond, _&&_, _||_}
+use mathlib.Core.Bool.{Bool, true, false, cond, _&&_, _||_, or-assoc}
 use mathlib.Core.Option.{Option, none, some}
 use Prim.Native.Nat.{ℕ, zero, suc, _+_, _≤_, _<_}
 use native.Mathlib.Nat.{add-zero, add-suc, suc-add, zero-add, le-of-suc-le-suc, not-suc-le-zero}
@@ -23,13 +23,9 @@ pub record Untold (m n : Matrix) : Type 0 where
   pub tests : (p : Row → Bool) → any p m ≡ any p n
 
 -- rows one after another, and what each row becomes
-or-assoc : (a b c : Bool) → (a || (b || c)) ≡ ((a || b) || c)
-or-assoc true b c = refl
-or-assoc false b c = refl
-
 any-append : (p : Row → Bool) (m n : Matrix) → any p (m ++ n) ≡ (any p m || any p n)
 any-append p [] n = refl
-any-append p (r ∷ m) n = ap (λ (x : Bool). p r || x) (any-append p m n) ∙ or-assoc (p r) (any p m) (any p n)
+any-append p (r ∷ m) n = ap (λ (x : Bool). p r || x) (any-append p m n) ∙ sym (or-assoc (p r) (any p m) (any p n))
 
 any-each : (p : Row → Bool) (f : Row → Matrix) (m : Matrix) → any p (eachRow f m) ≡ any (λ r. any p (f r)) m
 any-each p f [] = refl
@@ -51,7 +47,7 @@ all-seen-same u c [] = refl
 all-seen-same u c (fields ∷ ks) = ap₂ _&&_ (same-seen u c) (all-seen-same u (suc c) ks)
 
 -- does a row begin with a constructor
-isNamed : Row → Bool
+abbrev isNamed : Row → Bool
 isNamed [] = false
 isNamed (wild ∷ r) = false
 isNamed (lit l ∷ r) = false
@@ -59,7 +55,6 @@ isNamed (con t c ∷ r) = true
 
 module _ {table : Table} where
   type-of : {t : Ref} {ts : List Ref} {m : Matrix} → AllSuit table (t ∷ ts) m → columnType m ≡ cond (any isNamed m) (some t) none
-  unfolding isNamed
   type-of noRows = refl
   type-of (also (wilds h) a) = type-of a
   type-of (also (lits e k h) a) = type-of a

@@ -16,14 +16,14 @@ use Rattle.refusals.proofs.Cutting.{cuts-exactly}
 use Rattle.refusals.proofs.Judged.{says-same, line-goes}
 
 -- the kind of a frame's line
-abbrev kindOf : Frame → ℕ
-kindOf (typeOf ty) = typeFrames
-kindOf (constructorOf c) = constructorFrames
-kindOf (subjectOf t) = subjectFrames
-kindOf (clauseOf ps) = clauseFrames
-kindOf end = endFrames
+abbrev frameKind : Frame → ℕ
+frameKind (typeOf ty) = typeFrames
+frameKind (constructorOf c) = constructorFrames
+frameKind (subjectOf t) = subjectFrames
+frameKind (clauseOf ps) = clauseFrames
+frameKind end = endFrames
 
-kind-is : {k : ℕ} {f : Frame} {bs : List ℕ} → FrameBytes k f bs → k ≡ kindOf f
+kind-is : {k : ℕ} {f : Frame} {bs : List ℕ} → FrameBytes k f bs → k ≡ frameKind f
 kind-is (FrameBytes.typeOf w) = refl
 kind-is (FrameBytes.constructorOf w) = refl
 kind-is FrameBytes.subjectOf = refl
@@ -39,7 +39,7 @@ late : {p : Phase} {k : ℕ} → Past p → Stands p k → (k ≡ clauseFrames) 
 late inClauses Stands.aClause = inl refl
 late inClauses Stands.theEnd = inr refl
 
-early : {s : State} {l : Line} {f : Frame} → Past (s .phase) → Fine s l → Says l f → ((kindOf f ≡ clauseFrames) ⊎ (kindOf f ≡ endFrames) → ⊥) → ⊥
+early : {s : State} {l : Line} {f : Frame} → Past (s .phase) → Fine s l → Says l f → ((frameKind f ≡ clauseFrames) ⊎ (frameKind f ≡ endFrames) → ⊥) → ⊥
 early {s} past x a n = x .fine place5 (Wrong.is5 (KindIs.kindIs (a .first) (record { nowhere = λ h. n (late past (subst (Stands (s .phase)) (kind-is (a .holds)) h)) })))
 
 -- so types and subject stay

@@ -14,11 +14,10 @@ use Rattle.scope.specs.Simplify.{Matrix}
 use Rattle.scope.specs.Text.{decimal}
 use Rattle.scope.specs.Blocks.{Block}
 use Rattle.scope.specs.Driver.{findings, gaps}
-use Rattle.meaning.specs.Values.{plus, denotes}
 use Rattle.refusals.specs.Cut.{Cuts}
 use Rattle.promises.specs.Clauses.{Reached}
 use Rattle.promises.specs.Words.{countText, reachedText, neverText, Unreached, Verdicts, gapsText, pairTexts, callsText, Words, WordsSay}
-use Rattle.meaning.proofs.Decimals.{numbers-say}
+use Rattle.meaning.proofs.Decimals.{decimal-names}
 
 -- what stands in front of the same text
 cancel : (x y s : Text) → x ++ s ≡ y ++ s → x ≡ y
@@ -29,10 +28,7 @@ cancel (a ∷ x) (b ∷ y) s e = let h : a ≡ b = cc in let t : x ++ s ≡ y ++
 
 -- the line names its clause
 never-number : (a b : ℕ) → neverText a ≡ neverText b → a ≡ b
-never-number a b e =
-    let d = cancel (decimal a) (decimal b) (bytes " never") (ap (drop 7) e) in
-    let i : plus a ≡ plus b = sym (numbers-say a .1) ∙ ap denotes d ∙ numbers-say b .1 in
-    cc
+never-number a b e = decimal-names a b (cancel (decimal a) (decimal b) (bytes " never") (ap (drop 7) e))
 
 -- the last byte of a text
 abbrev lastOf : Text → ℕ

@@ -17,7 +17,6 @@ use Rattle.scope.specs.Blocks.{Block, parsed, blockOf}
 use Rattle.scope.specs.Driver.{findings, verdicts, gaps}
 use Rattle.scope.specs.Report.{report}
 use Rattle.scope.specs.Answer.{bufferAfter}
-use Rattle.meaning.specs.Values.{plus, denotes}
 use Rattle.meaning.specs.Order.{SameMembers, OrderFree}
 use Rattle.refusals.specs.Refusals.{Reports}
 use Rattle.promises.specs.Mission.{Reporting}
@@ -25,7 +24,7 @@ use Rattle.written.specs.Takes.{Takes}
 use Rattle.promises.specs.Clauses.{Reached}
 use Rattle.promises.specs.Words.{gapsText, pairTexts, callsText}
 use Rattle.promises.specs.Reviews.{Review, theBlock, theRows, theClauses, theLines, SameTypes, verdictText, Lists, SameVerdict, ListsNoGaps, SameBelow, ByRows, ByClauses, Kept, Moves, Request13}
-use Rattle.meaning.proofs.Decimals.{numbers-say}
+use Rattle.meaning.proofs.Decimals.{decimal-names}
 use Rattle.scope.proofs.Tests.{clash, not-passed}
 use Rattle.meaning.proofs.Order.{order-does-not-matter}
 use Rattle.meaning.proofs.NoMore.{no-more}
@@ -59,11 +58,6 @@ lower-same first e f g = rw (e, f, g)
 same-parts : {table table′ : Table} {t t′ : Ref} {m m′ : Matrix} → table ≡ table′ → t ≡ t′ → m ≡ m′ → _≡_ {A = Block} (record { table = table; subject = t; rows = m }) (record { table = table′; subject = t′; rows = m′ })
 same-parts e f g = rw (e, f, g)
 
-gaps-number : (n : ℕ) → gapsText n ≡ gapsText 0 → n ≡ 0
-gaps-number n e =
-    let i : plus n ≡ plus 0 = sym (numbers-say n .1) ∙ ap (λ (t : Text). denotes (drop 5 t)) e ∙ numbers-say 0 .1 in
-    cc
-
 module _ (r : Review) where
   saysIn : blockOf (lines (r .file)) ≡ parsed (theBlock r)
   saysIn = whole-block (r .report .due .whole)
@@ -90,7 +84,7 @@ module _ (r : Review) where
   no-gaps =
       let n = length (theClauses r) in
       let at : getD (theLines r) (suc n) [] ≡ gapsText (length (gaps (theBlock r))) = ap (λ (k : ℕ). getD (theLines r) k []) (omega arith) ∙ sym (getD-drop (suc n) (theLines r) 0 []) ∙ ap (λ (ls : List Text). getD ls 0 []) below in
-      (λ h. gaps-number (length (gaps (theBlock r))) (sym at ∙ h), λ h. at ∙ ap gapsText h)
+      (λ h. decimal-names (length (gaps (theBlock r))) 0 (ap (drop 5) (sym at ∙ h)), λ h. at ∙ ap gapsText h)
 
 -- the verdicts that two reports list
 both-list : (r s : Review) (i j : ℕ) → i < length (theClauses r) → j < length (theClauses s) → getD (verdicts (theBlock r)) i false ≡ getD (verdicts (theBlock s)) j false → SameVerdict r s i j
@@ -115,23 +109,19 @@ module _ (r s : Review) (t : SameTypes r s) where
       }
 
   -- the rows of clauses, in the one table
-  meantIn : List (List Raw) → List (Option Row)
+  abbrev meantIn : List (List Raw) → List (Option Row)
   meantIn raws = map (simplify (theBlock s .table) (theBlock s .subject)) raws
 
   one-meant : map some (theRows r) ≡ meantIn (theClauses r)
-  unfolding meantIn
   one-meant = rows-meant (made r) ∙ meant-same (t .types) (t .subject) (theClauses r)
 
   other-meant : map some (theRows s) ≡ meantIn (theClauses s)
-  unfolding meantIn
   other-meant = rows-meant (made s)
 
   taken : (q : Review) → map some (theRows q) ≡ meantIn (theClauses q) → (i : ℕ) → map some (take i (theRows q)) ≡ meantIn (take i (theClauses q))
-  unfolding meantIn
   taken q e i = sym (take-map some i (theRows q)) ∙ ap (take i) e ∙ take-map (simplify (theBlock s .table) (theBlock s .subject)) i (theClauses q)
 
   rows-same : {m n : Matrix} {xs ys : List (List Raw)} → map some m ≡ meantIn xs → map some n ≡ meantIn ys → SameMembers xs ys → SameMembers m n
-  unfolding meantIn
   rows-same {m} {n} e f h = some-members m n (rw (e, f) (map-members (simplify (theBlock s .table) (theBlock s .subject)) h))
 
   by-rows : ByRows r s
