@@ -1,7 +1,7 @@
 -- The driver on numbers is the driver of `scope`, for every block that the slices hold; and what its answer says.
 use mathlib.Core.Path.{_≡_, refl, sym, ap, ap₂, _∙_}
 use mathlib.Core.Bool.{Bool, true, false, cond}
-use mathlib.Core.List.{List, [], _∷_, _++_, map, append-nil, append-assoc}
+use mathlib.Core.List.{List, [], _∷_, _++_, map}
 use Prim.Native.Nat.{ℕ, zero, suc, _≤_, _<_}
 use native.Mathlib.Omega.{arith}
 use lib.ListN.{length, getD, take, drop}
@@ -9,10 +9,11 @@ use lib.Seq.{sets, take-suc, take-length, length-take-le, getD-take}
 use Rattle.scope.specs.Limits.{maxCells}
 use Rattle.scope.specs.Lists.{bit}
 use Rattle.scope.specs.Types.{Ref, Table}
-use Rattle.scope.specs.Simplify.{Row, Matrix}
-use Rattle.scope.specs.Walks.{Walk, plain, turned, joined, isUseful}
+use Rattle.scope.specs.Simplify.{Matrix}
+use Rattle.scope.specs.Walks.{Walk, turned, joined, isUseful}
 use Rattle.scope.specs.Driver.{judged}
 use Rattle.scope.proofs.Tests.{clash}
+use Rattle.scope.proofs.Driver.{judged-snoc}
 use Rattle.scope.specs.Blocks.{ok, refuse}
 use Rattle.judge.specs.declared.Judged.{Judged}
 use Rattle.judge.specs.declared.Judged.the-variants.{Done, Over}
@@ -22,35 +23,6 @@ use Rattle.walks.specs.Bridge.{Says, SayRows, Holding}
 use Rattle.judge.proofs.Clauses.{written-whole}
 use Rattle.walks.proofs.BridgeUseful.{same-useful}
 use Rattle.walks.proofs.BridgeTable.{clause-says, rows-at}
-
--- a walk by its three parts
-walk-is : {A : Type 0} (w v : Walk A) → w .result ≡ v .result → w .calls ≡ v .calls → w .peak ≡ v .peak → w ≡ v
-walk-is {A} w v r c p = ap₂ (λ (x : A) (y : ℕ). made x y (w .peak)) r c ∙ ap (made (v .result) (v .calls)) p
-  where
-    made : A → ℕ → ℕ → Walk A
-    made x y z = record { result = x; calls = y; peak = z }
-
--- joining walks of lists: nothing on a side, and three of them
-module _ {A : Type 0} where
-  joined-first : (w : Walk (List A)) → joined _++_ (plain []) w ≡ w
-  joined-first w = walk-is (joined _++_ (plain []) w) w refl (omega arith) (omega arith)
-
-  joined-last : (w : Walk (List A)) → joined _++_ w (plain []) ≡ w
-  joined-last w = walk-is (joined _++_ w (plain [])) w (append-nil (w .result)) (omega arith) (omega arith)
-
-  joined-assoc : (u v w : Walk (List A)) → joined _++_ (joined _++_ u v) w ≡ joined _++_ u (joined _++_ v w)
-  joined-assoc u v w = walk-is (joined _++_ (joined _++_ u v) w) (joined _++_ u (joined _++_ v w)) (append-assoc (u .result) (v .result) (w .result)) (omega arith) (omega arith)
-
--- one clause more at the end
-judged-snoc : (table : Table) (rs before : Matrix) (r : Row) → judged table before (rs ++ r ∷ []) ≡ joined _++_ (judged table before rs) (turned (_∷ []) (isUseful table 1 (before ++ rs) r))
-unfolding judged
-judged-snoc table [] before r =
-    joined-last (turned (_∷ []) (isUseful table 1 before r))
-    ∙ sym (joined-first (turned (_∷ []) (isUseful table 1 (before ++ []) r)) ∙ ap (λ (x : Matrix). turned (_∷ []) (isUseful table 1 x r)) (append-nil before))
-judged-snoc table (x ∷ rs) before r =
-    let here = turned (_∷ []) (isUseful table 1 before x) in
-    ap (joined _++_ here) (judged-snoc table rs (before ++ x ∷ []) r ∙ ap (λ (y : Matrix). joined _++_ (judged table (before ++ x ∷ []) rs) (turned (_∷ []) (isUseful table 1 y r))) (append-assoc before (x ∷ []) rs))
-    ∙ sym (joined-assoc here (judged table (before ++ x ∷ []) rs) (turned (_∷ []) (isUseful table 1 (before ++ x ∷ rs) r)))
 
 module _ (bytes kinds nodes left counts ars starts : List ℕ) (table : Table) (t : Ref) (m : Matrix) (holds : Holding bytes kinds nodes left counts ars starts table t m) (low : length ars < 32768) where
   before-says : (k : ℕ) → k < length m → SayRows bytes table (t ∷ []) (map (λ p. drop p nodes) (take k starts)) (take k m)

@@ -2,8 +2,10 @@
 pub mod Tests
 pub mod Limits
 pub mod Compute
+pub mod Calls
 pub mod Telling
 pub mod Held
 pub mod Worked
 pub mod Answers
 pub mod Refusals
+pub mod Driver

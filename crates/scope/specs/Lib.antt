@@ -1,4 +1,4 @@
--- Document 01 as definitions, in its own order as far as one needs another. All but SmallBlocks, which is proved, is to be believed.
+-- Document 01 as definitions, in its own order as far as one needs another. All but SmallBlocks and Calls, which are proved, is to be believed.
 pub mod Lists
 pub mod Limits
 -- "Frames"
@@ -21,3 +21,5 @@ pub mod Report
 pub mod Answer
 -- "Small blocks"
 pub mod SmallBlocks
+-- "What costs nothing to ask", request 7 of document 02
+pub mod Calls
