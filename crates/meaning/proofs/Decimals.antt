@@ -172,6 +172,19 @@ decimal-positive (suc fuel) n z l = go (ltb n 10) refl (λ y h. decimal-positive
         let h = ltb-false n 10 e in
         positive-append (decimalIn fuel (n / 10)) (48 + n % 10) (more (omega arith) (omega arith)) (among-le 48 57 (48 + n % 10) (omega arith) (omega arith))
 
+-- so all of them are digits
+positive-digits : (ds : Text) → isPositive ds ≡ true → all isDigit ds ≡ true
+positive-digits [] h = refl
+positive-digits (d ∷ ds) h =
+    let p = both (among 49 57 d) (all isDigit ds) h in
+    let a = among-is 49 57 d (p .0) in
+    and-true (among-le 48 57 d (omega (arith, a .0)) (a .1)) (p .1)
+
+pub decimal-all-digits : (n : ℕ) → all isDigit (decimal n) ≡ true
+unfolding decimal
+decimal-all-digits zero = refl
+decimal-all-digits (suc n) = positive-digits (decimalIn (suc n) (suc n)) (decimal-positive (suc n) (suc n) (omega arith) (omega arith))
+
 -- a text that begins with 1 to 9 has no minus
 unsigned-text : (t : Text) → isPositive t ≡ true → (isDecimal t ≡ true) × (denotes t ≡ plus (digitsSay t))
 unfolding isDecimal denotes

@@ -17,3 +17,5 @@ pub mod Untold
 pub mod Members
 pub mod Order
 pub mod NoMore
+pub mod Costs
+pub mod Tight

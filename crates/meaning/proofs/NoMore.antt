@@ -20,10 +20,10 @@ use Rattle.scope.proofs.Tests.{clash}
 use Rattle.meaning.proofs.Members.{own-members}
 
 -- rows: a wildcard; the empty byte string; A, the first constructor of a data type; [], [_] and [[]]
-abbrev any : Row
+abbrev pub any : Row
 any = wild ∷ []
 
-abbrev empty : Row
+abbrev pub empty : Row
 empty = lit (byteArray []) ∷ []
 
 abbrev rowA : Row
@@ -39,20 +39,20 @@ abbrev inner : Row
 inner = con 0 0 ∷ con 0 1 ∷ con 0 1 ∷ []
 
 -- blocks: of byte strings, of lists whose elements are such lists, of a data type
-abbrev strings : Matrix → Block
+abbrev pub strings : Matrix → Block
 strings m = record { table = byteString ∷ []; subject = 0; rows = m }
 
 abbrev lists : Matrix → Block
 lists m = record { table = list 0 ∷ []; subject = 0; rows = m }
 
-abbrev named : List Ctor → Matrix → Block
+abbrev pub named : List Ctor → Matrix → Block
 named cs m = record { table = dat cs ∷ []; subject = 0; rows = m }
 
 -- a file gets a report and says a block, by computing
-abbrev fileOf : Example → List ℕ
+abbrev pub fileOf : Example → List ℕ
 fileOf e = bytes (e .file)
 
-computed : (e : Example) {b : Block} → answer (fileOf e) scratchCells reportBytes ≡ Report (length (bytes (e .prints))) → blockOf (lines (fileOf e)) ≡ parsed b → GetsReport (fileOf e) b
+pub computed : (e : Example) {b : Block} → answer (fileOf e) scratchCells reportBytes ≡ Report (length (bytes (e .prints))) → blockOf (lines (fileOf e)) ≡ parsed b → GetsReport (fileOf e) b
 computed e h i = record { cells = scratchCells; room = reportBytes; long = length (bytes (e .prints)); reports = h; says = i }
 
 pub no-more : NoMore

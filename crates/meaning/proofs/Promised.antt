@@ -75,7 +75,7 @@ outcome-behind file cells room n h =
     unless sized (blockOf (lines file)) n 1 0 (ltb cells scratchCells) (unless read (blockOf (lines file)) n 2 0 (ltb maxFile (length file)) (judged-behind room n (blockOf (lines file)))) h
 
 -- The verdicts, clause by clause
-judged-at : (table : Table) (before rs : Matrix) (i : ℕ) → i < length rs → getD (judged table before rs .result) i false ≡ isUseful table 1 (before ++ take i rs) (getD rs i []) .result
+pub judged-at : (table : Table) (before rs : Matrix) (i : ℕ) → i < length rs → getD (judged table before rs .result) i false ≡ isUseful table 1 (before ++ take i rs) (getD rs i []) .result
 unfolding judged
 judged-at table before [] i l = absurd (not-suc-le-zero l)
 judged-at table before (r ∷ rs) zero l = rw (append-nil before)
@@ -92,17 +92,17 @@ verdicts-add (true ∷ vs) = omega (arith, verdicts-add vs)
 verdicts-add (false ∷ vs) = omega (arith, verdicts-add vs)
 
 -- rows before row i, and row i
-take-typed : {table : Table} {ts : List Ref} {m : Matrix} → TypedRows table ts m → (i : ℕ) → TypedRows table ts (take i m)
+pub take-typed : {table : Table} {ts : List Ref} {m : Matrix} → TypedRows table ts m → (i : ℕ) → TypedRows table ts (take i m)
 take-typed a zero = TypedRows.noRows
 take-typed TypedRows.noRows (suc i) = TypedRows.noRows
 take-typed (TypedRows.also h a) (suc i) = TypedRows.also h (take-typed a i)
 
-at-typed : {table : Table} {ts : List Ref} {m : Matrix} → TypedRows table ts m → (i : ℕ) → i < length m → Typed table ts (getD m i [])
+pub at-typed : {table : Table} {ts : List Ref} {m : Matrix} → TypedRows table ts m → (i : ℕ) → i < length m → Typed table ts (getD m i [])
 at-typed TypedRows.noRows i l = absurd (not-suc-le-zero l)
 at-typed (TypedRows.also h a) zero l = h
 at-typed (TypedRows.also h a) (suc i) l = at-typed a i (le-of-suc-le-suc l)
 
-take-admitted : (m : Matrix) (i : ℕ) → all (all admits) m ≡ true → all (all admits) (take i m) ≡ true
+pub take-admitted : (m : Matrix) (i : ℕ) → all (all admits) m ≡ true → all (all admits) (take i m) ≡ true
 take-admitted m zero h = refl
 take-admitted [] (suc i) h = refl
 take-admitted (r ∷ m) (suc i) h = let p = both (all admits r) (all (all admits) m) h in and-true (p .0) (take-admitted m i (p .1))

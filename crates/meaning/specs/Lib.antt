@@ -4,4 +4,6 @@ pub mod Meaning
 pub mod Rows
 pub mod Order
 pub mod NoMore
+pub mod Costs
+pub mod Tight
 pub mod Renamed
