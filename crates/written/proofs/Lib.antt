@@ -4,3 +4,4 @@ pub mod Trees
 pub mod Encoded
 pub mod Lines
 pub mod Lossless
+pub mod Solid

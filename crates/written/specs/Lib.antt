@@ -4,3 +4,4 @@ pub mod Trees
 pub mod Fitting
 pub mod Writing
 pub mod Lossless
+pub mod Solid
