@@ -3,10 +3,10 @@ use mathlib.Core.Path.{_≡_, refl, ap}
 use mathlib.Core.List.{List, [], _∷_, _++_}
 use mathlib.Core.Bool.{Bool, true, false, not, cond, _&&_, _||_}
 use mathlib.Core.Logic.{_⊎_, inl, inr}
-use Prim.Native.Nat.{ℕ, zero, suc, _+_, _-_, _/_, _%_, _≤_}
+use Prim.Native.Nat.{ℕ, zero, suc, _+_, _-_}
 use native.Mathlib.Omega.{arith}
 use lib.ListN.{length, getD}
-use lib.Dec.{leb, ltb, eqb}
+use lib.Dec.{leb, eqb}
 use borrow.Author.Tests.{leb-true, eqb-true, ne-eqb}
 use Rattle.scope.specs.Lists.{Text, bytes, bit, all, same}
 use Rattle.scope.specs.Lines.{ended, lines, intoFirst}
@@ -14,9 +14,10 @@ use Rattle.scope.specs.Types.{Ref, Ctor, Ty, integer, byteString, opaque, list,
 use Rattle.scope.specs.Constructors.{ctorsAt, ctorAt, arity, built, nilName}
 use Rattle.scope.specs.Simplify.{wild, lit, con, Row}
 use Rattle.scope.specs.Frames.{isUpper, isLower, isDigit, isSmall, isBig, passing, within, times, byte, flag, nameBy, bigName, smallName, fieldsFor, constructorFrame}
-use Rattle.scope.specs.Text.{decimal, decimalIn, commas, Mode, source, paste, Look, round, square, spelled, look, skip, isNil, textUnless, afterFirst, afterNext, Place, alone, inTail, texts, fieldText, fieldTexts, argumentText, prettyCtor, tailCtor, prettyStep, prettyIn, prettyAt, pretty}
+use Rattle.scope.specs.Text.{decimal, commas, Mode, source, paste, Look, round, square, spelled, look, skip, isNil, textUnless, afterFirst, afterNext, Place, alone, inTail, texts, fieldText, fieldTexts, argumentText, prettyCtor, tailCtor, prettyStep, prettyIn, prettyAt, pretty}
 use Rattle.scope.specs.Report.{asLine}
 use Rattle.scope.proofs.Tests.{clash, both, and-true, either}
+use Rattle.meaning.proofs.Decimals.{decimal-all-digits}
 use Rattle.agreement.proofs.Tables.{Yields, give-yields, any-yields, bind-yields, passing-yields}
 
 -- no line feed in a text
@@ -43,20 +44,14 @@ lines-line (b ∷ t) rest h =
     go false e k = ap (intoFirst b) k
 
 -- numbers
-decimalIn-clean : (fuel n : ℕ) → n ≤ fuel → noFeed (decimalIn fuel n) ≡ true
-decimalIn-clean zero n h = and-true (not-feed (48 + n) (λ e. omega arith)) refl
-decimalIn-clean (suc fuel) n h = go (ltb n 10) refl (decimalIn-clean fuel)
-  where
-    more : Text
-    more = decimalIn fuel (n / 10) ++ (48 + n % 10) ∷ []
-
-    go : (x : Bool) → ltb n 10 ≡ x → ((m : ℕ) → m ≤ fuel → noFeed (decimalIn fuel m) ≡ true) → noFeed (cond x ((48 + n) ∷ []) (decimalIn fuel (n / 10) ++ (48 + n % 10) ∷ [])) ≡ true
-    go true e deeper = and-true (not-feed (48 + n) (λ i. omega arith)) refl
-    go false e deeper = append-clean (decimalIn fuel (n / 10)) ((48 + n % 10) ∷ []) (deeper (n / 10) (omega arith)) (and-true (not-feed (48 + n % 10) (λ i. omega arith)) refl)
+digits-clean : (t : Text) → all isDigit t ≡ true → noFeed t ≡ true
+digits-clean [] h = refl
+digits-clean (b ∷ t) h =
+    let w = both (isDigit b) (all isDigit t) h in
+    and-true (not-feed b (λ e. omega (arith, leb-true 48 b (both (leb 48 b) (leb b 57) (w .0) .0)))) (digits-clean t (w .1))
 
 pub decimal-clean : (n : ℕ) → noFeed (decimal n) ≡ true
-unfolding decimal
-decimal-clean n = decimalIn-clean n n (omega arith)
+decimal-clean n = digits-clean (decimal n) (decimal-all-digits n)
 
 -- names and labels without line feeds
 abbrev pub cleanCtor : Ctor → Bool

@@ -8,3 +8,4 @@ pub mod Meets
 pub mod Excluded
 pub mod Heads
 pub mod Reviews
+pub mod Cheap

@@ -16,14 +16,11 @@ use Rattle.scope.specs.Simplify.{Row, Matrix, simplify}
 use Rattle.scope.specs.Blocks.{Block, parsed, blockOf}
 use Rattle.scope.specs.Driver.{findings, verdicts, gaps}
 use Rattle.scope.specs.Report.{report}
-use Rattle.scope.specs.Answer.{bufferAfter}
 use Rattle.meaning.specs.Order.{SameMembers, OrderFree}
-use Rattle.refusals.specs.Refusals.{Reports}
-use Rattle.promises.specs.Mission.{Reporting}
 use Rattle.written.specs.Takes.{Takes}
 use Rattle.promises.specs.Clauses.{Reached}
 use Rattle.promises.specs.Words.{gapsText, pairTexts, callsText}
-use Rattle.promises.specs.Reviews.{Review, theBlock, theRows, theClauses, theLines, SameTypes, verdictText, Lists, SameVerdict, ListsNoGaps, SameBelow, ByRows, ByClauses, Kept, Moves, Request13}
+use Rattle.promises.specs.Reviews.{Review, EveryReport, theBlock, theRows, theClauses, theLines, SameTypes, verdictText, Lists, SameVerdict, ListsNoGaps, SameBelow, ByRows, ByClauses, Kept, Moves, Request13}
 use Rattle.meaning.proofs.Decimals.{decimal-names}
 use Rattle.scope.proofs.Tests.{clash, not-passed}
 use Rattle.meaning.proofs.Order.{order-does-not-matter}
@@ -59,14 +56,14 @@ same-parts : {table table′ : Table} {t t′ : Ref} {m m′ : Matrix} → table
 same-parts e f g = rw (e, f, g)
 
 module _ (r : Review) where
-  saysIn : blockOf (lines (r .file)) ≡ parsed (theBlock r)
+  pub saysIn : blockOf (lines (r .file)) ≡ parsed (theBlock r)
   saysIn = whole-block (r .report .due .whole)
 
-  made : Simplifies (theBlock r .table) (theBlock r .subject) (theClauses r) (theRows r)
+  pub made : Simplifies (theBlock r .table) (theBlock r .subject) (theClauses r) (theRows r)
   made = made-from (r .file) (theBlock r) saysIn (theClauses r) (r .report .own)
 
   -- a clause is listed with the verdict that it has
-  lists : (i : ℕ) → i < length (theClauses r) → (v : Bool) → Lists r i v ↔ (getD (verdicts (theBlock r)) i false ≡ v)
+  pub lists : (i : ℕ) → i < length (theClauses r) → (v : Bool) → Lists r i v ↔ (getD (verdicts (theBlock r)) i false ≡ v)
   lists i l v = go (clause-told (r .report .words) i l) v
     where
       go : {t : Text} → Told (theClauses r) (theBlock r) i t → (v : Bool) → (t ≡ verdictText v (suc i)) ↔ (getD (verdicts (theBlock r)) i false ≡ v)
@@ -109,16 +106,16 @@ module _ (r s : Review) (t : SameTypes r s) where
       }
 
   -- the rows of clauses, in the one table
-  abbrev meantIn : List (List Raw) → List (Option Row)
+  abbrev pub meantIn : List (List Raw) → List (Option Row)
   meantIn raws = map (simplify (theBlock s .table) (theBlock s .subject)) raws
 
-  one-meant : map some (theRows r) ≡ meantIn (theClauses r)
+  pub one-meant : map some (theRows r) ≡ meantIn (theClauses r)
   one-meant = rows-meant (made r) ∙ meant-same (t .types) (t .subject) (theClauses r)
 
-  other-meant : map some (theRows s) ≡ meantIn (theClauses s)
+  pub other-meant : map some (theRows s) ≡ meantIn (theClauses s)
   other-meant = rows-meant (made s)
 
-  taken : (q : Review) → map some (theRows q) ≡ meantIn (theClauses q) → (i : ℕ) → map some (take i (theRows q)) ≡ meantIn (take i (theClauses q))
+  pub taken : (q : Review) → map some (theRows q) ≡ meantIn (theClauses q) → (i : ℕ) → map some (take i (theRows q)) ≡ meantIn (take i (theClauses q))
   taken q e i = sym (take-map some i (theRows q)) ∙ ap (take i) e ∙ take-map (simplify (theBlock s .table) (theBlock s .subject)) i (theClauses q)
 
   rows-same : {m n : Matrix} {xs ys : List (List Raw)} → map some m ≡ meantIn xs → map some n ≡ meantIn ys → SameMembers xs ys → SameMembers m n
@@ -174,7 +171,7 @@ again r xs zs p m e = lists r (length xs) l false .1 (not-passed (getD (verdicts
         at-seam : getD (theClauses r) (length xs) [] ≡ p
         at-seam = ap (λ (ls : List (List Raw)). getD ls (length xs) []) e ∙ getD-append-seam xs p zs []
 
-gets : (file buffer : List ℕ) (cells long : ℕ) → Reports file cells (length buffer) long → Reporting file buffer cells long (bufferAfter file cells buffer)
+pub gets : EveryReport
 gets file buffer cells long d = reporting file cells buffer long (report-exactly file cells (length buffer) long .1 d)
 
 pub request-13 : Request13

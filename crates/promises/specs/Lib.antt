@@ -5,3 +5,4 @@ pub mod Words
 pub mod Mission
 pub mod Excluded
 pub mod Reviews
+pub mod Cheap

@@ -29,6 +29,11 @@ pub record Review : Type 0 where
   pub buffer′ : List ℕ
   pub report : Reporting file buffer cells long buffer′
 
+-- every file that gets a report has such a one
+abbrev pub EveryReport : Type 0
+EveryReport =
+    (file buffer : List ℕ) (cells long : ℕ) → Reports file cells (length buffer) long → Reporting file buffer cells long (bufferAfter file cells buffer)
+
 -- the block that its file says
 abbrev pub theBlock : Review → Block
 theBlock r = r .report .due .block
@@ -137,8 +142,7 @@ pub record Request13 : Type 0 where
   -- a clause that stands above already is never reached
   pub again : (r : Review) (xs zs : List (List Raw)) (p : List Raw) → List·Mem p xs → theClauses r ≡ xs ++ p ∷ zs → Lists r (length xs) false
   -- the premise asks no more: a file that gets a report has a review, and files that begin alike have the same types and subject
-  pub gets : (file buffer : List ℕ) (cells long : ℕ) → Reports file cells (length buffer) long
-      → Reporting file buffer cells long (bufferAfter file cells buffer)
+  pub gets : EveryReport
   pub begins : (r s : Review) → SameHead (r .file) (s .file) → SameTypes r s
   -- "Calls, missing rows and the moved clauses' own verdicts may differ"
   pub noMore : NoMore
