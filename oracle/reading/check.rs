@@ -1,6 +1,7 @@
 //! A file's bytes to its answer.
 
 use crate::block::{self, Block};
+use crate::costs;
 use crate::judge::{Work, judge};
 use crate::limits;
 use crate::refusal::{Fault, Refusal};
@@ -61,4 +62,18 @@ pub fn figures(file: &[u8]) -> String {
         second.most_open,
         block.nodes,
     )
+}
+
+/// For a file with a report, what its subject and each of its clauses cost.
+pub fn costs(file: &[u8]) -> Vec<u8> {
+    let text = block::read(file).and_then(|block| whole(counted(&block)));
+    text.unwrap_or_else(Refusal::text)
+}
+
+/// The costs of a block that gets a report.
+fn counted(block: &Block) -> Result<Vec<u8>, Fault> {
+    let mut work = Work::default();
+    let findings = judge(block, &mut work)?;
+    within(report(block, &findings, &work))?;
+    Ok(costs::text(block, &findings, &work).into_bytes())
 }

@@ -16,9 +16,10 @@ pub struct Work {
     pub missing_nodes: usize,
 }
 
-/// The verdict on each clause, and the missing rows.
+/// The verdict on each clause, the calls that it took, and the missing rows.
 pub struct Findings {
     pub reached: Vec<bool>,
+    pub calls: Vec<usize>,
     pub missing: Vec<Pattern>,
 }
 
@@ -26,19 +27,23 @@ pub struct Findings {
 pub fn judge(block: &Block, work: &mut Work) -> Result<Findings, Fault> {
     let mut matrix = Matrix::new(1);
     let mut reached = Vec::with_capacity(block.clauses.len());
+    let mut calls = Vec::with_capacity(block.clauses.len());
     for clause in &block.clauses {
+        let so_far = work.first.calls;
         reached.push(is_useful(
             &matrix,
             &[clause],
             &block.table,
             &mut work.first,
         )?);
+        calls.push(work.first.calls - so_far);
         matrix.push([clause]);
     }
     let missing = collect_missing_patterns(&matrix, &block.table, &mut work.second)?;
     work.missing_nodes = missing.nodes;
     Ok(Findings {
         reached,
+        calls,
         missing: missing.rows.into_iter().flatten().collect(),
     })
 }

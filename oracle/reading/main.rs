@@ -1,10 +1,11 @@
 //! A second reading of the scope document: a whole checker, written from that document alone.
 //!
-//! usage: reading FILE | reading --batch | reading --figures [FILE...]
+//! usage: reading FILE | reading --batch | reading --figures [FILE...] | reading --costs [FILE]
 
 mod batch;
 mod block;
 mod check;
+mod costs;
 mod cursor;
 mod declaration;
 mod judge;
@@ -63,12 +64,17 @@ fn run(arguments: &[String]) -> io::Result<()> {
             }
             output.flush()
         }
+        [option] if option == "--costs" => batch::answer_all(input, output, check::costs),
+        [option, name] if option == "--costs" => {
+            output.write_all(&check::costs(&fs::read(name)?))?;
+            output.flush()
+        }
         [name] => {
             output.write_all(&check::printed(&fs::read(name)?))?;
             output.flush()
         }
         _ => Err(io::Error::other(
-            "usage: reading FILE | reading --batch | reading --figures [FILE...]",
+            "usage: reading FILE | reading --batch | reading --figures [FILE...] | reading --costs [FILE]",
         )),
     }
 }
