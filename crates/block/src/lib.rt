@@ -1,4 +1,6 @@
 // The check of a file: the one entry, which asks nothing of its caller.
+#![tactic(auto)]
+
 ghost use Rattle.block.specs.Check.{Checked};
 
 use crate::driver::answer;

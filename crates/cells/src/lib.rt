@@ -1,4 +1,6 @@
 // Total reads and writes on lent slices: what every other crate reads and writes through.
+#![tactic(auto)]
+
 ghost use Rattle.std.specs.Prelude.{◌≡◌, ◌+◌, ◌<◌, ◌^◌, length, get_or, set, replicate};
 
 pub fn wide8(x: u8) -> usize

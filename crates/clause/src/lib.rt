@@ -1,4 +1,6 @@
 // What a clause's frame holds: patterns as written, each followed by its inner ones.
+#![tactic(auto)]
+
 ghost use Rattle.std.specs.Prelude.{◌≡◌, ◌+◌, ◌*◌, ◌≤◌, ◌<◌, ◌^◌, length, get_or};
 ghost use Rattle.scope.specs.Frames.{pattern_kinds, pattern, patterns};
 ghost use Rattle.fields.specs.Places.{said_read, said_at, read_at};

@@ -1,4 +1,6 @@
 // The tables of constructors, zero everywhere.
+#![tactic(auto)]
+
 ghost use Rattle.std.specs.Prelude.{◌≡◌, replicate};
 
 // A cell for each constructor.

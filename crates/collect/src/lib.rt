@@ -1,4 +1,6 @@
 // `collect_missing_patterns`. The walk carries the path from the root, and a leaf writes its rows out.
+#![tactic(auto)]
+
 ghost use Rattle.std.specs.Prelude.{◌+◌, ◌-◌, ◌≤◌, ◌<◌, map, take};
 ghost use Rattle.scope.specs.Walks.{turned};
 ghost use Rattle.walks.specs.Walks.{missing_by, missing_of, gather_from};

@@ -1,4 +1,6 @@
 // The first column of a matrix: which constructors are seen in it.
+#![tactic(auto)]
+
 ghost use Rattle.std.specs.Prelude.{◌≡◌, false, map, ℕ, ◌+◌, ◌≤◌, ◌<◌, get_or};
 ghost use Rattle.matrix.specs.Numbers.{first_of, mem, count_of};
 ghost use Rattle.matrix.specs.Places.{head_at, up_to, Few};

@@ -1,4 +1,6 @@
 // What is seen in a column: all constructors of its type, or those that are left, as a set.
+#![tactic(auto)]
+
 ghost use Rattle.std.specs.Prelude.{◌≡◌, map, ◌≤◌};
 ghost use Rattle.matrix.specs.Numbers.{seen_of};
 ghost use Rattle.matrix.specs.Places.{head_at, Few};

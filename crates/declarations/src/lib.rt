@@ -1,4 +1,6 @@
 // What a type's frame and a constructor's hold.
+#![tactic(auto)]
+
 ghost use Rattle.std.specs.Prelude.{◌≡◌, true, ◌≤◌, length, eqb};
 ghost use Rattle.scope.specs.Lists.{among};
 ghost use Rattle.scope.specs.Frames.{times, type_frame, constructor_frame};

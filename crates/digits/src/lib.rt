@@ -1,4 +1,6 @@
 // Digits: of a line of hexadecimal, and the first of a decimal number.
+#![tactic(auto)]
+
 ghost use Rattle.std.specs.Prelude.{◌≡◌, ◌&&◌, ◌||◌, leb};
 
 // Whether a byte is one of 0 to 9 and a to f.

@@ -1,4 +1,6 @@
 // Readers over a slice and a place: bytes, names, texts. A fault says the place of the byte at fault.
+#![tactic(auto)]
+
 ghost use Rattle.std.specs.Prelude.{◌≡◌, false, ◌≤◌, length};
 ghost use Rattle.scope.specs.Frames.{byte, passing, within, times, text_from};
 ghost use Rattle.fields.specs.Places.{said_read, said_at, read_at, letter_of, name_of, judged};

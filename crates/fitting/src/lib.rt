@@ -1,4 +1,6 @@
 // The report fitted to its buffer: refusal 11.
+#![tactic(auto)]
+
 ghost use Rattle.std.specs.Prelude.{length};
 ghost use Rattle.scope.specs.Types.{Table};
 ghost use Rattle.scope.specs.Driver.{Findings};

@@ -1,4 +1,6 @@
 // One reader standing over a line: a frame's bytes are read through it. Its shape, and the tests of it before what it adds.
+#![tactic(auto)]
+
 ghost use Rattle.std.specs.Prelude.{◌≡◌, ◌+◌, ◌≤◌, ◌<◌, length, get_or};
 ghost use Rattle.scope.specs.Frames.{frame};
 ghost use Rattle.fields.specs.Places.{said_read, said_at};

@@ -1,4 +1,6 @@
 // A constructor's name twice in a type, a label twice in a constructor: refusal 7 at that line.
+#![tactic(auto)]
+
 ghost use Rattle.std.specs.Prelude.{◌≡◌, ◌+◌, ◌*◌, ◌<◌, ◌^◌};
 ghost use Rattle.scope.specs.Lists.{any, twice, same as same_text};
 ghost use Rattle.layout.specs.Types.{text_at};

@@ -1,4 +1,5 @@
 // Standard input to standard output: the report, or `refused N line K`.
+#![tactic(auto)]
 
 // The rest of the input, read and left; false at its end.
 fn more() -> bool {

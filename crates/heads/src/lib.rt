@@ -1,4 +1,6 @@
 // What a node's number says: 0 is a wildcard, from 32,768 on it is a literal, and between them stand the constructors, 32 for each type.
+#![tactic(auto)]
+
 ghost use Rattle.std.specs.Prelude.{◌≡◌, ◌-◌, ◌%◌, ◌<◌};
 ghost use Rattle.heads.specs.Heads.{alike_of};
 

@@ -1,4 +1,6 @@
 // The driver of `is_useful`: each clause judged against all before it.
+#![tactic(auto)]
+
 ghost use Rattle.std.specs.Prelude.{◌≡◌, map, ◌≤◌, ◌<◌, length};
 ghost use Rattle.std.proofs.lemmas.List.Edits.{sets};
 ghost use Rattle.scope.specs.Lists.{bit};

@@ -1,4 +1,6 @@
 // A block judged: both walks over its slices, then its report or refusal 10 or 11.
+#![tactic(auto)]
+
 ghost use Rattle.std.specs.Prelude.{◌≡◌, ℕ, ◌≤◌, List, length, replicate};
 ghost use Rattle.scope.specs.Blocks.{Block, parsed};
 ghost use Rattle.scope.specs.Answer.{outcome_of};

@@ -1,5 +1,5 @@
 -- The one-step law of `pretty` and `pretty_tail`: each is one step whose calls are the two themselves. No law mentions fuel.
-use mathlib.Core.Path.{◌≡◌, refl, ap, sym, ◌∙◌}
+use mathlib.Core.Path.{◌≡◌, refl, ap, ap₂, sym, ◌∙◌}
 use mathlib.Core.List.{List, [], ◌∷◌, ◌++◌}
 use Prim.Native.Nat.{ℕ, zero, suc, ◌+◌, ◌≤◌}
 use native.Mathlib.Omega.{arith}
@@ -8,7 +8,7 @@ use Rattle.scope.specs.Lists.{Text, bytes}
 use Rattle.scope.specs.Types.{Table}
 use Rattle.scope.specs.Constructors.{arity, ctor_at}
 use Rattle.scope.specs.Simplify.{wild, lit, con, Row}
-use Rattle.scope.specs.Text.{commas, skip, Look, round, square, spelled, look, Mode, Place, alone, in_tail, texts, field_text, field_texts, argument_text, pretty_ctor, tail_ctor, pretty_step, pretty_in, pretty_at}
+use Rattle.scope.specs.Text.{commas, skip, Look, round, square, spelled, look, Mode, Place, alone, in_tail, texts, field_text, field_texts, argument_text, after_first, after_next, pretty_ctor, tail_ctor, pretty_step, pretty_in, pretty_at}
 
 skip-shorter : (table : Table) (r : Row) (n : ℕ) → length (skip table r n) ≤ length r
 skip-shorter table [] n = omega arith
@@ -43,12 +43,20 @@ module _ (mode : Mode) (table : Table) (f g : Place → Row → Text) where
 
   ctor-agrees : (k : Look) (t c : ℕ) (r : Row) → Agree (length r) → pretty_ctor mode table f k t c r ≡ pretty_ctor mode table g k t c r
   ctor-agrees round t c r h = rw (texts-agree (arity table t c) r h)
-  ctor-agrees square t c r h = rw (h alone r (omega arith), h in_tail (skip table r 1) (skip-shorter table r 1))
+  ctor-agrees square t c r h =
+      ap₂
+      (λ (x y : Text). bytes "[" ++ commas (x ∷ after_first mode table (skip table r 1) y) ++ bytes "]")
+      (h alone r (omega arith))
+      (h in_tail (skip table r 1) (skip-shorter table r 1))
   ctor-agrees spelled t c r h = rw (arguments-agree (ctor_at table t c).labels (arity table t c) r h)
 
   tail-agrees : (k : Look) (t c : ℕ) (r : Row) → Agree (length r) → tail_ctor mode table f k t c r ≡ tail_ctor mode table g k t c r
   tail-agrees round t c r h = ctor-agrees round t c r h
-  tail-agrees square t c r h = rw (h alone r (omega arith), h in_tail (skip table r 1) (skip-shorter table r 1))
+  tail-agrees square t c r h =
+      ap₂
+      (λ (x y : Text). commas (x ∷ after_next mode table (skip table r 1) y))
+      (h alone r (omega arith))
+      (h in_tail (skip table r 1) (skip-shorter table r 1))
   tail-agrees spelled t c r h = ctor-agrees spelled t c r h
 
   -- a step asks only about shorter rows

@@ -1,4 +1,6 @@
 // How types and simplified patterns lie in slices of numbers: the definitions that the contracts of the crates above share; and names, read where they stand.
+#![tactic(auto)]
+
 ghost use Rattle.std.specs.Prelude.{◌≡◌, ◌+◌, ◌<◌, ◌≤◌, ◌^◌, length, get_or};
 ghost use Rattle.layout.specs.Types.{text_at};
 

@@ -1,4 +1,6 @@
 // How long a line and a name may be, and how many fields a constructor may have: of refusals 3 and 4.
+#![tactic(auto)]
+
 ghost use Rattle.std.specs.Prelude.{◌≡◌, ◌&&◌, ◌%◌, ltb, leb, eqb};
 ghost use Rattle.scope.specs.Limits.{max_digits};
 ghost use Rattle.scope.specs.Lists.{among};

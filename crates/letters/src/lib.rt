@@ -1,4 +1,6 @@
 // Classes of bytes: ranges, letters, digits; and texts of digits.
+#![tactic(auto)]
+
 ghost use Rattle.std.specs.Prelude.{◌≡◌};
 ghost use Rattle.scope.specs.Lists.{among, all};
 ghost use Rattle.scope.specs.Frames.{is_upper, is_lower, is_digit, is_small, is_big, is_positive, is_decimal};

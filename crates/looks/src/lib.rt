@@ -1,4 +1,6 @@
 // What stands at a node: "[]", or a constructor that looks so and is named so.
+#![tactic(auto)]
+
 ghost use Rattle.std.specs.Prelude.{◌≡◌, ◌&&◌, ◌||◌, ◌+◌, ◌/◌, ◌%◌, ◌^◌, ◌<◌, ◌≤◌, length, get_or};
 ghost use Rattle.scope.specs.Types.{Ref, Table};
 ghost use Rattle.scope.specs.Constructors.{ctor_at};

@@ -1,4 +1,6 @@
 // What stands around, between and before the patterns of a text: brackets, commas, dots and labels.
+#![tactic(auto)]
+
 ghost use Rattle.std.specs.Prelude.{◌≡◌, not, ◌&&◌, ◌+◌, ◌^◌, ◌<◌, ◌≤◌, get_or, eqb};
 ghost use Rattle.scope.specs.Lists.{bytes as text};
 ghost use Rattle.layout.specs.Types.{text_at};

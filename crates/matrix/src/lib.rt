@@ -1,4 +1,6 @@
 // Rows of a matrix. A row of n patterns is one number, a place p of the table of simplified patterns: n - left[p] invented wildcards, then the patterns from p on.
+#![tactic(auto)]
+
 ghost use Rattle.std.specs.Prelude.{◌≡◌, ◌++◌, ◌+◌, ◌≤◌, ◌<◌, length, get_or, take, drop};
 ghost use Rattle.matrix.specs.Numbers.{ar_of, same_lit, same_node};
 ghost use Rattle.matrix.specs.Places.{step1, steps, place_of, Steady, Written};

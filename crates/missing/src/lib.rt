@@ -1,4 +1,6 @@
 // The rows that no clause covers.
+#![tactic(auto)]
+
 ghost use Rattle.std.specs.Prelude.{◌≡◌, ◌≤◌, length, replicate};
 ghost use Rattle.matrix.specs.Places.{Sizes, Starts};
 ghost use Rattle.outcomes.specs.Past.{said_seek};

@@ -1,4 +1,6 @@
 // The fixed names, and comparing bytes.
+#![tactic(auto)]
+
 ghost use Rattle.std.specs.Prelude.{◌≡◌, ◌++◌};
 ghost use Rattle.scope.specs.Lists.{same};
 ghost use Rattle.scope.specs.Constructors.{cons_name, nil_name, tuple_name};

@@ -1,4 +1,6 @@
 // How a constructor looks in a text, and where a list's end is left out.
+#![tactic(auto)]
+
 ghost use Rattle.std.specs.Prelude.{◌≡◌, cond, ◌&&◌, ◌||◌};
 ghost use Rattle.scope.specs.Text.{look_by_name, look_by_kind};
 ghost use Rattle.naming.specs.Naming.{look_of};

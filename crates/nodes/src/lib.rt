@@ -1,5 +1,7 @@
 // The prefix-order table: the numbers of its nodes, `left` beside them, and the stack of open patterns: lists and
 // constructors of which patterns are still to be read.
+#![tactic(auto)]
+
 ghost use Rattle.std.specs.Prelude.{◌≡◌, ◌&&◌, [], ◌∷◌, map, ◌+◌, ◌*◌, ◌-◌, ◌/◌, ◌%◌, ◌≤◌, ◌<◌, ◌^◌, length, get_or, take, drop, replicate, ltb, leb, eqb};
 ghost use Rattle.std.proofs.lemmas.List.Edits.{sets};
 ghost use Rattle.nodes.specs.Keys.{low16, key_of};

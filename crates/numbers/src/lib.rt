@@ -1,4 +1,6 @@
 // The answer for so many bytes of report, and the answer as numbers, for callers in other languages.
+#![tactic(auto)]
+
 ghost use Rattle.std.specs.Prelude.{◌≡◌, length};
 ghost use Rattle.scope.specs.Lists.{Text};
 ghost use Rattle.scope.specs.Answer.{fitted, said};

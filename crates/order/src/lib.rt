@@ -1,4 +1,6 @@
 // Where in the order of frames a file is, and how much it may say: refusals 2, 5, 6 and 9.
+#![tactic(auto)]
+
 ghost use Rattle.std.specs.Prelude.{◌≡◌, ◌&&◌, ◌+◌, ◌≤◌, ltb, leb};
 ghost use Rattle.scope.specs.Limits.{max_file, max_constructors, max_in_type, max_nodes};
 ghost use Rattle.order.specs.Phases.{stands_in, closes_in, room_in, Numbers};

@@ -1,4 +1,6 @@
 // What the two walks answer, and the limits that they are held to: refusal 10.
+#![tactic(auto)]
+
 ghost use Rattle.std.specs.Prelude.{◌≡◌, ◌+◌, ◌≤◌, ◌<◌};
 ghost use Rattle.scope.specs.Lists.{bit};
 ghost use Rattle.scope.specs.Blocks.{ok};

@@ -1,5 +1,7 @@
 // The path from the root of the missing walk: a step is a node, or, where its set is not 0, each constructor of the set,
 // with wildcards inside. The rows that it says, written out.
+#![tactic(auto)]
+
 ghost use Rattle.std.specs.Prelude.{◌≡◌, ℕ, ◌+◌, ◌-◌, ◌^◌, ◌≤◌, ◌<◌, [], ◌∷◌, length, get_or, set, replicate};
 ghost use Rattle.paths.specs.Path.{spelt1, spelt, chosen, under, path_of};
 ghost use Rattle.paths.specs.Spread.{Put, Spread, Spelling};

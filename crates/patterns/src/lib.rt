@@ -1,4 +1,6 @@
 // `simplify` into the prefix-order table: refusal 8.
+#![tactic(auto)]
+
 ghost use Rattle.std.specs.Prelude.{◌≡◌, ◌+◌, ◌*◌, ◌≤◌, ◌<◌, ◌^◌, length};
 ghost use Rattle.suits.specs.Raws.{size_of, size_at};
 ghost use Rattle.patterns.specs.Rows.{Ready, Turned, Simplifies};

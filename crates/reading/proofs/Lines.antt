@@ -17,8 +17,8 @@ use Rattle.scope.specs.Types.{Table}
 use Rattle.scope.specs.Simplify.{Matrix}
 use Rattle.scope.specs.Blocks as scope
 use Rattle.scope.specs.Blocks.{Phase, types, constructors, clauses, closed, start, ok, refuse, go_on, framed, line_step, parsed, faulty, finish, parse, block_of}
-use Rattle.hex.specs.declared.Line as hex
-use Rattle.hex.specs.Digits.{said_line, TakenLine, RefusedLine, Lined}
+use Rattle.hexadecimal.specs.declared.Line as hex
+use Rattle.hexadecimal.specs.Digits.{said_line, TakenLine, RefusedLine, Lined}
 use Rattle.table.proofs.Held.{take_through}
 use Rattle.table.proofs.Carried.{empty_holds, more-holds}
 use Rattle.patterns.specs.Rows.{RowAt}

@@ -5,7 +5,7 @@ ghost use Rattle.reading.specs.Files.{end_of, LinesAs, said_parsed, ReadAs};
 
 use crate::line::{Step, enter_line};
 use clearing::clear_ctors;
-use hex::{Line, read_line};
+use hexadecimal::{Line, read_line};
 use order::{State, closes, is_long, start};
 
 #[derive(Drop)]

@@ -1,5 +1,7 @@
 // Many files in one process: each with its length before it in decimal and a line feed, and so each answer. After a length may stand a
 // blank, the cells of scratch to lend, a blank, and the bytes of report to lend; else all of both are lent.
+#![tactic(auto)]
+
 ghost use Rattle.std.specs.Prelude.{◌≤◌, length};
 
 use block::print::print;

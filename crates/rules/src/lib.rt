@@ -1,4 +1,6 @@
 // What suits a type, over numbers alone: the decisions of refusal 8.
+#![tactic(auto)]
+
 ghost use Rattle.std.specs.Prelude.{◌≡◌, ◌&&◌, ◌||◌, ◌-◌, leb, eqb};
 ghost use Rattle.rules.specs.Kinds.{suits_kind};
 

@@ -89,7 +89,7 @@ module _ (table : Table) (t : Ref) (k : ℕ) (flat : Flat table t k) (some-ctor 
       one = none_useful table fuel (specialize_by_wildcard m) q
 
       each : (try_each (λ c a. is_useful_in table fuel (a + 0) (specialize_by_ctor c a m) (replicate a wild ++ q)) 0 (alts table t)).calls ≤ length (ctors table t)
-      each = try_calls _ (λ c. none_useful table fuel (specialize_by_ctor c 0 m) q) 0 (ctors table t) (all-bare flat)
+      each = try_calls (λ c a. is_useful_in table fuel (a + 0) (specialize_by_ctor c a m) (replicate a wild ++ q)) (λ c. none_useful table fuel (specialize_by_ctor c 0 m) q) 0 (ctors table t) (all-bare flat)
 
       go : (b : Bool) → (useful_wild table (is_useful_in table fuel) (cond b (full t) (part t)) 0 m q).calls ≤ k
       go true = omega (arith, flat.many, one, each)
@@ -108,7 +108,7 @@ module _ (table : Table) (t : Ref) (k : ℕ) (flat : Flat table t k) (some-ctor 
       one = none-missing table fuel (specialize_by_wildcard m)
 
       each : (gather (λ c a. collect_missing_in table fuel (a + 0) (specialize_by_ctor c a m)) t 0 (alts table t)).calls ≤ length (ctors table t)
-      each = gather-calls _ (λ c. none-missing table fuel (specialize_by_ctor c 0 m)) t 0 (ctors table t) (all-bare flat)
+      each = gather-calls (λ c a. collect_missing_in table fuel (a + 0) (specialize_by_ctor c a m)) (λ c. none-missing table fuel (specialize_by_ctor c 0 m)) t 0 (ctors table t) (all-bare flat)
 
       go : (b : Bool) → (missing_column table (collect_missing_in table fuel) (cond b (full t) (part t)) 0 m).calls ≤ k
       go true = omega (arith, flat.many, one, each)

@@ -1,4 +1,6 @@
 // The nodes from one pattern that was read up to the next one to read.
+#![tactic(auto)]
+
 ghost use Rattle.std.specs.Prelude.{List, ◌∷◌, ℕ, ◌+◌, ◌*◌, ◌≤◌, ◌<◌, ◌^◌, length, set};
 ghost use Rattle.nodes.specs.Opens.{wanted, opens};
 ghost use Rattle.settle.specs.Settled.{Settled};

@@ -1,4 +1,6 @@
 // References to no type, and types without a finite value: refusal 7 at the subject's line.
+#![tactic(auto)]
+
 ghost use Rattle.std.specs.Prelude.{◌≡◌, map, ◌+◌, ◌*◌, ◌<◌, ◌≤◌, ◌^◌, get_or, ltb};
 ghost use Rattle.scope.specs.Lists.{all, any};
 ghost use Rattle.scope.specs.Finite.{is_known};

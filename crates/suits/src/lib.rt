@@ -1,4 +1,6 @@
 // Whether the pattern at a place suits a type, and what it becomes there: refusal 8.
+#![tactic(auto)]
+
 ghost use Rattle.std.specs.Prelude.{◌≡◌, ◌<◌, ◌≤◌};
 ghost use Rattle.nodes.specs.Keys.{literal_key};
 ghost use Rattle.suits.specs.Suits.{filled_by, args_of, form_of, suit_at};

@@ -1,4 +1,6 @@
 // The type table. Constructor c of type t has the number 32 t + c; its fields are consecutive in `fields`, from `starts` on.
+#![tactic(auto)]
+
 ghost use Rattle.std.specs.Prelude.{◌≡◌, map, cond, ◌+◌, ◌-◌, ◌<◌, ◌≤◌, ◌^◌, eqb, length, get_or, replicate};
 ghost use Rattle.std.proofs.lemmas.List.Edits.{sets};
 ghost use Rattle.layout.specs.Places.{places, labelled, reads};

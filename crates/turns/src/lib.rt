@@ -1,4 +1,6 @@
 // What follows the way into one constructor of a column.
+#![tactic(auto)]
+
 ghost use Rattle.std.specs.Prelude.{◌≡◌};
 ghost use Rattle.turns.specs.Turns.{turn_of};
 

@@ -1,4 +1,6 @@
 // `is_useful`, with its calls and the limits.
+#![tactic(auto)]
+
 ghost use Rattle.std.specs.Prelude.{map, ◌+◌, ◌-◌, ◌≤◌, ◌<◌, take};
 ghost use Rattle.matrix.specs.Numbers.{ar_of};
 ghost use Rattle.matrix.specs.Places.{head_at, Listed};

@@ -1,4 +1,6 @@
 // The lines of the verdicts: how many are yes, one line a clause, and all that stands before the missing rows.
+#![tactic(auto)]
+
 ghost use Rattle.std.specs.Prelude.{◌≡◌, ◌++◌, ◌+◌, ◌*◌, ◌≤◌, ◌<◌, ◌^◌, length, eqb};
 ghost use Rattle.scope.specs.Lists.{bytes as text, bit};
 ghost use Rattle.scope.specs.Text.{decimal as decimalText};

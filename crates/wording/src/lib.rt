@@ -1,4 +1,6 @@
 // Words and numbers: a number in decimal, one word or another, a word with its number, and the lines made of both: the calls, a refusal.
+#![tactic(auto)]
+
 ghost use Rattle.std.specs.Prelude.{cond, ◌++◌, ◌+◌, ◌≤◌, ◌<◌, ◌^◌, length};
 ghost use Rattle.scope.specs.Lists.{bytes as text};
 ghost use Rattle.scope.specs.Text.{decimal as decimalText};

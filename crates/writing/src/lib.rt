@@ -1,4 +1,6 @@
 // Bytes and byte strings, pasted at a place and cut at the buffer's end.
+#![tactic(auto)]
+
 ghost use Rattle.std.specs.Prelude.{[], ◌∷◌, ◌+◌, ◌<◌, ◌^◌, length};
 ghost use Rattle.writing.specs.Writing.{Wrote};
 

@@ -4,7 +4,7 @@ use Prim.Native.Nat.{ℕ, ◌*◌, ◌-◌, ◌≤◌}
 use native.Mathlib.Omega.{arith}
 use borrow.Author.Tests.{ltb-true, ltb-false}
 use lib.ListN.{length, take}
-use Rattle.hex.specs.Digits.{TakenLine}
+use Rattle.hexadecimal.specs.Digits.{TakenLine}
 use Rattle.reading.specs.Said.{held}
 use Rattle.reading.specs.Files.{says_fault}
 use Rattle.reading.proofs.Lines.{Within, taken, not_taken, within-start, line-bad, next-line, to-after, line-long, line_asks, line-says, line-less, line-stops, line-goes, at_last}

@@ -1,0 +1,14 @@
+-- `matrix::same_literal` meets its contract: the first i bytes agree, so the rest decides.
+use Rattle.matrix.proofs.Literals.{agree_on, agree_fail, agree-end, lit-whole}
+use Rattle.matrix.specs.Numbers.{agree, same_lit}
+use native.Mathlib.Omega.{arith}
+use native.Mathlib.Nat.{add-zero, sub-zero}
+use Prim.Native.Nat.{ℕ, ◌+◌, ◌-◌, ◌≤◌}
+use mathlib.Core.Path.{◌≡◌, sym, ap, ◌∙◌}
+use Rattle.matrix.proofs.same_literal.Given as goal
+
+abbrev pub invariant-loop-i : goal.invariant-loop-i
+invariant-loop-i l = (l.i ≤ l.n) × (agree l.bytes (l.n - l.i) (l.a + l.i) (l.b + l.i) ≡ same_lit l.bytes l.a l.b)
+
+abbrev pub decreases-loop-i : goal.decreases-loop-i
+decreases-loop-i l = l.n - l.i

@@ -1,0 +1,17 @@
+-- `nodes::count_left` meets its contract: before i, `left` has what the nodes before i leave.
+use mathlib.Core.Path.{◌≡◌, sym, ap, ◌∙◌}
+use Prim.Native.Nat.{ℕ, ◌+◌, ◌*◌, ◌-◌, ◌≤◌}
+use native.Mathlib.Omega.{arith}
+use mathlib.Core.List.{List, map}
+use lib.ListN.{length, get_or, take, drop, set, length-drop}
+use lib.Seq.{sets, length-sets, take_all, get_or-take, get_or-drop, length-take-le}
+use Rattle.nodes.specs.Keys.{low16}
+use Rattle.nodes.specs.Lefts.{arity_of, lefts_of, left_after}
+use Rattle.nodes.proofs.Lefts.{left-none, after_none, left-next, after_next}
+use Rattle.nodes.proofs.count_left.Given as goal
+
+abbrev pub invariant-loop-i : goal.invariant-loop-i
+invariant-loop-i l = (l.i ≤ l.count) × (l.left ≡ sets l.initial.left l.used (map low16 (lefts_of l.arities 1 (take l.i (take l.count (drop l.used l.nodes)))))) × (l.more ≡ left_after l.arities 1 (take l.i (take l.count (drop l.used l.nodes)))) × (l.more ≤ 1 + 255 * l.i)
+
+abbrev pub decreases-loop-i : goal.decreases-loop-i
+decreases-loop-i l = l.count - l.i

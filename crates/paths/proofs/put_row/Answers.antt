@@ -1,0 +1,36 @@
+-- `paths::put_row` meets its contract: what is still to come, put after what stands, is the whole.
+use Rattle.paths.proofs.PathLaws.{spelt-most}
+use Rattle.paths.proofs.PathPuts.{row-start, row_next, row-end}
+use Rattle.paths.specs.Path.{spelt}
+use lib.ListN.{length}
+use lib.Seq.{sets}
+use Rattle.matrix.proofs.Arities.{arity-byte}
+use native.Mathlib.Omega.{arith}
+use Prim.Native.Nat.{◌+◌, ◌-◌, ◌≤◌}
+use mathlib.Core.Path.{◌≡◌, ◌∙◌}
+use Rattle.paths.proofs.put_row.Goals as goal
+
+pub put_step-next-requires : goal.put_step-next-requires
+put_step-next-requires c =
+    let a = c.args in
+    omega (arith, c.requires, c.loop-i.invariant.2, spelt-most a.arities.now a.path.now a.alts.now a.n (arity-byte a.arities.now (λ i. omega (arith, c.type_inv.arities i))) a.depth 0)
+
+pub loop-i-preserved : goal.loop-i-preserved
+loop-i-preserved c =
+    let a = c.args in
+    let p = c.loop-i in
+    let w = c.put_step-next in
+    let n = row_next a.arities.now a.path.now a.alts.now a.depth a.n p.out p.at p.i c.loop-i-test.true w.result w.new.out w.ensures in
+    (omega (arith, c.loop-i-test.true), n.0 ∙ p.invariant.1, n.1 ∙ p.invariant.2)
+
+pub put_wilds-requires : goal.put_wilds-requires
+put_wilds-requires c =
+    let a = c.args in
+    omega (arith, c.requires, c.loop-i.invariant.2, spelt-most a.arities.now a.path.now a.alts.now a.n (arity-byte a.arities.now (λ i. omega (arith, c.type_inv.arities i))) a.depth 0)
+
+pub returns : goal.returns
+returns c =
+    let a = c.args in
+    let p = c.loop-i in
+    let w = c.put_wilds in
+    row-end a.arities.now a.path.now a.alts.now a.depth a.n p.out p.at p.i c.loop-i-test.false a.out.now _ a.written p.invariant.1 p.invariant.2 w.result w.new.out w.ensures

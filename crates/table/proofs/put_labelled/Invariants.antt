@@ -1,0 +1,17 @@
+-- `table::put_labelled` meets its contract: in both tables what is written and what is still to come are the whole run.
+use mathlib.Core.Path.{◌≡◌, refl, ◌∙◌}
+use mathlib.Core.List.{map}
+use Prim.Native.Nat.{◌+◌, ◌-◌, ◌*◌, ◌≤◌}
+use native.Mathlib.Omega.{arith}
+use lib.ListN.{get_or}
+use lib.Seq.{sets}
+use Rattle.layout.specs.Places.{labelled, reads}
+use Rattle.layout.proofs.Loops.{labelled_step, labelled-end, run-start, run_step, run_end}
+use Rattle.table.specs.Build.{low}
+use Rattle.table.proofs.put_labelled.Given as goal
+
+abbrev pub invariant-loop-k : goal.invariant-loop-k
+invariant-loop-k l = (l.from ≤ l.k) × (l.k ≤ l.end) × (l.p + 257 * l.from ≤ l.at + 257 * l.k) × (sets l.fields l.k (reads l.bytes (labelled l.bytes l.p (l.end - l.k))) ≡ sets l.initial.fields l.from (reads l.bytes (labelled l.bytes l.at l.n))) × (sets l.labels l.k (map (λ q. low (q + 1)) (labelled l.bytes l.p (l.end - l.k))) ≡ sets l.initial.labels l.from (map (λ q. low (q + 1)) (labelled l.bytes l.at l.n)))
+
+abbrev pub decreases-loop-k : goal.decreases-loop-k
+decreases-loop-k l = l.end - l.k
