@@ -192,9 +192,9 @@ module _ (panic : Panic) (table : Table) (named : Named table) (t : Ref) where
 
   collect_holds : {ts : List Ref} {f : ℕ → Bool} {es : List Entry} {m : Matrix} {ps : rust.Matrix} → ShowsRows table (t ∷ ts) m ps → Holds f es → Holds (λ c. f c || seen m c) (collect_into panic es ps)
   collect_holds {f = f} no_rows h = holds-alike (λ c. or_none (f c)) h
-  collect_holds (also (wilds k) l) h = collect_holds l h
-  collect_holds (also (lits e k) l) h = collect_holds l h
-  collect_holds {f = f} (also {m = m} (cons {c = d} made k) l) h = holds-alike (λ c. or_shift (eqb d c) (f c) (seen m c)) (collect_holds l (insert-holds d _ made.known made.named made.listed h))
+  collect_holds {f = f} (also (wilds k) l) h = collect_holds {f = f} l h
+  collect_holds {f = f} (also (lits e k) l) h = collect_holds {f = f} l h
+  collect_holds {f = f} (also {m = m} (cons {c = d} made k) l) h = holds-alike (λ c. or_shift (eqb d c) (f c) (seen m c)) (collect_holds {f = λ c. eqb d c || f c} l (insert-holds d _ made.known made.named made.listed h))
 
   -- what the first column says on both sides
   pub data ColumnAgrees : Column → List Entry → Type 0 where

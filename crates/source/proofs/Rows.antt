@@ -94,7 +94,10 @@ module _ (table : Table) where
     where
       go : (x : Matrix) (o : Option Patterns) → g p ≡ o → ShowsOption us x o → ShowsRows table us (flat.each_row f m) (filter_map g ps) → ShowsRows table us (x ++ flat.each_row f m) (filter_map g (p ∷ ps))
       go [] none e absent rest = subst (λ (y : rust.Matrix). ShowsRows table us (flat.each_row f m) y) (sym (filter_map-cons-none g p ps e)) rest
+      go [] (some p') e w rest = elim w [ ]
+      go (r' ∷ []) none e w rest = elim w [ ]
       go (r' ∷ []) (some p') e (present k') rest = subst (λ (y : rust.Matrix). ShowsRows table us (r' ∷ flat.each_row f m) y) (sym (filter_map-cons-some g p ps e)) (also k' rest)
+      go (r' ∷ (_ ∷ _)) o e w rest = elim w [ ]
 
   row_if_lem : {ts : List Ref} (b : Bool) {r : Row} {p : Patterns} → Shows table ts r p → ShowsOption ts (flat.row_if b r) (rust.row_if b p)
   row_if_lem true h = present h

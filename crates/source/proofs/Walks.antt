@@ -59,7 +59,7 @@ module _ (panic : Panic) (table : Table) (named : Named table) (again : ℕ → 
     wild_useful {q} {p} k (parts {e = x} {es = es} i l) = rw (complete_when x es false (ne_eqb (suc (length es)) (length x.value) (λ j. omega (arith, ap length i)))) (deeper.at n e (wildcard-shows table h) k)
     wild_useful {q} {p} k (fulls {e = x} {es = es} i l) =
         rw (complete_when x es true (eq-eqb (suc (length es)) (length x.value) (l ∙ sym (ap length i))), i)
-        (try_shows table t _ _ (λ c j. ctor_useful c j (shows-wilds table (fields_at table t c) ts k)) (from_all table t))
+        (try_shows table t (λ c a. again (a + n) (flat.specialize_by_ctor c a m) (replicate a wild ++ q)) (λ alt. again' (rust.specialize_rows_by_ctor panic alt.name alt.arity ps) (wildcards alt.arity ++ᵖ p)) (λ c j. ctor_useful c j (shows-wilds table (fields_at table t c) ts k)) (from_all table t))
 
   useful_step : {ts : List Ref} {m : Matrix} {ps : rust.Matrix} {q : Row} {p : Patterns} (n : ℕ) → n ≡ length ts → ShowsRows table ts m ps → Shows table ts q p
       → flat.is_useful_step table again n m q ≡ rust.is_useful_step panic again' ps p
@@ -171,9 +171,9 @@ module _ (panic : Panic) (table : Table) (named : Named table) (again : ℕ → 
       let at : Keyed table t m (record { key = x.key; value = constructors_for table t } ∷ es) = record { at = keys.at } in
       rw (i, lt-ltb (suc (length es)) (length (constructors_for table t)) l)
       (turned-shows _ _ (λ m ps k. each-unseen table t at k) (deeper.at n e (wildcard-shows table h)))
-  column-missing n t ts e h keys (fulls {e = x} {es = es} i l) =
+  column-missing n t ts e {m} {ps} h keys (fulls {e = x} {es = es} i l) =
       rw (i, le-ltb (suc (length es)) (length (constructors_for table t)) (omega arith))
-      (gather-shows table t _ _ (λ c j. turned-shows _ _ (λ m ps k. recover-shows table t panic c j k) (deeper.at (arity table t c + n) (omega (arith, length-append (fields_at table t c) ts)) (ctor-shows table named panic c j h))) (from_all table t))
+      (gather-shows table t (λ c a. again (a + n) (flat.specialize_by_ctor c a m)) (λ alt. turned (map (rust.recover_ctor panic (constructors_for table t) alt.name alt.arity)) (again' (alt.arity + n) (rust.specialize_rows_by_ctor panic alt.name alt.arity ps))) (λ c j. turned-shows _ _ (λ m ps k. recover-shows table t panic c j k) (deeper.at (arity table t c + n) (omega (arith, length-append (fields_at table t c) ts)) (ctor-shows table named panic c j h))) (from_all table t))
 
   missing-step : {ts : List Ref} {m : Matrix} {ps : rust.Matrix} (n : ℕ) → n ≡ length ts → ShowsRows table ts m ps → ShowsWalk table ts (flat.collect_missing_step table again n m) (rust.collect_missing_step panic again' n ps)
   unfolding flat.collect_missing_step rust.collect_missing_step

@@ -1,6 +1,6 @@
 -- The source's own walks on its own trees, under its names, to be laid beside `exhaustive.rs` line by line; its texts and `simplify` are in `agreement`.
 use mathlib.Core.List.{List, [], ◌∷◌, ◌++◌, map, filter_map, flat_map}
-use Rattle.std.specs.Prelude.{Bool, true, false, cond, ◌&&◌, ◌||◌, ℕ, zero, suc, ◌+◌, ◌-◌, ◌*◌, length, eqb, ltb}
+use Rattle.std.specs.Prelude.{Bool, true, false, cond, ◌&&◌, ◌||◌, ℕ, zero, suc, ◌+◌, ◌*◌, length, eqb, ltb}
 use Rattle.std.proofs.Math.Option.{Option, none, some}
 use Rattle.scope.specs.Lists.{Text, any, same}
 use Rattle.scope.specs.Types.{Ref, Ctor, Table}
