@@ -154,7 +154,7 @@ finish-sound {raws} k s b h e = go s.phase e
 parse-sound : {raws : List (List Raw)} (k : ℕ) (s : State) (ls : List Line) (b : Block) → Sound s raws → parse k s ls ≡ parsed b → Blocked b (raws ++ clauses_in ls)
 unfolding parse clauses_in
 parse-sound {raws} k s [] b h e = rw (append-nil raws) (finish-sound k s b h e)
-parse-sound {raws} k s (l ∷ ls) b h e = go (line_step s l) refl e (λ s' i j. parse-sound (suc k) s' ls b i j)
+parse-sound {raws} k s (l ∷ ls) b h e = go (line_step s l) refl e (λ s' i j. parse-sound {raws = raws ++ read_clause (bytes_of l)} (suc k) s' ls b i j)
   where
     first : List (List Raw)
     first = read_clause (bytes_of l)

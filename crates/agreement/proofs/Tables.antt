@@ -153,7 +153,7 @@ pub ctor-good : {table : Table} (c : Ctor) → GoodTypes table → Declared c �
 unfolding is_fresh
 ctor-good c no_types f e = no_types
 ctor-good c (also-type {ty = ty} g no_types) f e = also-type (good-snoc (declared ty) c g f (neither (any (same c.name) (map name_of (declared ty))) (twice c.labels) (not-true _ e)).0) no_types
-ctor-good c (also-type g (also-type h k)) f e = also-type g (ctor-good c (also-type h k) f e)
+ctor-good c (also-type {ty = ty} g (also-type {ty = ty'} h k)) f e = also-type {ty = ty} g (ctor-good c (also-type {ty = ty'} h k) f e)
 
 pub type-good : {table : Table} (ty : Ty) → GoodTypes table → declared ty ≡ [] → GoodTypes (table ++ ty ∷ [])
 unfolding twice

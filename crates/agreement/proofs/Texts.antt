@@ -291,7 +291,7 @@ gather-free f h t c (fields ∷ ks) = rows-free (map-free (con t c ∷◌) (λ r
 column-free : (table : Table) (again : ℕ → Matrix → flat.Walk Matrix) → ((n : ℕ) (m : Matrix) → FreeRows (again n m).result) → (x : flat.Column) (n : ℕ) (m : Matrix) → FreeRows (flat.missing_column table again x n m).result
 column-free table again h flat.bare n m = map-free (wild ∷◌) (λ r i. free-wild i) (h n _)
 column-free table again h (flat.part t) n m = each_free (flat.unseen m t 0 (alts table t)) (λ r i. unseen-free m t 0 (alts table t) r i) (h n _)
-column-free table again h (flat.full t) n m = gather-free _ (λ c a. h (a + n) _) t 0 (alts table t)
+column-free table again h (flat.full t) n m = gather-free (λ c a. again (a + n) (flat.specialize_by_ctor c a m)) (λ c a. h (a + n) (flat.specialize_by_ctor c a m)) t 0 (alts table t)
 
 missing-free : (table : Table) (k n : ℕ) (m : Matrix) → FreeRows (flat.collect_missing_in table k n m).result
 unfolding flat.collect_missing_in flat.collect_missing_step
