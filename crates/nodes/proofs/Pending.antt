@@ -1,5 +1,5 @@
 -- What a push leaves on the stack, and what each step over the open patterns takes off the items that are pending.
-use mathlib.Core.Path.{◌≡◌, refl, ap, ap₂, ◌∙◌}
+use mathlib.Core.Path.{◌≡◌, refl, sym, subst, ap, ap₂, ◌∙◌}
 use mathlib.Core.Bool.{Bool, true, false, cond}
 use mathlib.Core.List.{List, [], ◌∷◌, ◌++◌, map}
 use Prim.Native.Nat.{ℕ, zero, suc, ◌+◌, ◌*◌, ◌-◌, ◌/◌, ◌%◌, ◌≤◌, ◌<◌}
@@ -26,7 +26,8 @@ opens-set stack i x (suc k) h = rw (get_or-set_other stack i (3 * k) x 0 (λ e. 
 -- one more open pattern
 pub pushed : (stack stack' : List ℕ) (d : ℕ) (o : Open) → 3 * d + 3 ≤ length stack → stack' ≡ sets stack (3 * d) (o.what ∷ o.more ∷ o.field ∷ []) → opens stack' (d + 1) ≡ o ∷ opens stack d
 unfolding opens
-pushed stack stack' d o room e = rw (add-one d, e) (ap₂ (λ (f : Open) (fs : List Open). f ∷ fs) there below)
+pushed stack stack' d o room e =
+    rw add-one d (subst (λ (s : List ℕ). opens s (suc d) ≡ o ∷ opens stack d) (sym e) (ap₂ (λ (f : Open) (fs : List Open). f ∷ fs) there below))
   where
     s₁ : List ℕ
     s₁ = set stack (3 * d) o.what

@@ -1,0 +1,18 @@
+-- `sound::some_ctor` meets its contract: the constructors that are left decide.
+use mathlib.Core.Path.{◌≡◌, sym, ap, ◌∙◌}
+use Prim.Native.Nat.{◌+◌, ◌-◌, ◌*◌, ◌≤◌, ◌<◌}
+use native.Mathlib.Nat.{add-zero, sub-zero}
+use native.Mathlib.Omega.{arith}
+use lib.ListN.{get_or}
+use Rattle.scope.specs.Lists.{any}
+use Rattle.layout.specs.Places.{places}
+use Rattle.sound.specs.Sound.{fields_known}
+use Rattle.layout.proofs.Loops.{places-step, places-end, any-on, any_off, any-end}
+use Rattle.sound.proofs.Known.{ctor-known}
+use Rattle.sound.proofs.some_ctor.Given as goal
+
+abbrev pub invariant-loop-c : goal.invariant-loop-c
+invariant-loop-c l = (l.c ≤ l.n) × (l.n ≡ get_or l.counts l.t 0) × (l.n < 256) × (any (fields_known l.arities l.starts l.fields l.known) (places (32 * l.t) (get_or l.counts l.t 0)) ≡ any (fields_known l.arities l.starts l.fields l.known) (places (32 * l.t + l.c) (l.n - l.c)))
+
+abbrev pub decreases-loop-c : goal.decreases-loop-c
+decreases-loop-c l = l.n - l.c
