@@ -11,7 +11,6 @@ use Rattle.layout.proofs.Loops.{places-step, places-end, any-on, any_off, any-en
 use Rattle.sound.proofs.Known.{ctor-known}
 use Rattle.sound.proofs.some_ctor.Goals as goal
 
--- TODO no step all_Known
 pub returns-then-all_known : goal.returns-then-all_known
 returns-then-all_known c =
     let a = c.args in
@@ -21,9 +20,8 @@ returns-then-all_known c =
     let wide16 = c.wide16 in
     let at82 = c.at8-in-loop-c in
     let k = ctor-known a.arities.now a.arities.now a.arities.now a.starts.now a.fields.now a.known (32 * a.t + l.c) _ _ (wide16.ensures ∙ at16.ensures) (c.wide8.ensures ∙ at82.ensures) in
-    sym (l.invariant.3 ∙ any_off (fields_known a.arities.now a.starts.now a.fields.now a.known) _ _ _ (places-step (32 * a.t) l.c wide8.result (omega arith)) (sym k ∙ sym c.before.all_Known.ensures ∙ c.if-all_known.true))
+    sym (l.invariant.3 ∙ any_off (fields_known a.arities.now a.starts.now a.fields.now a.known) _ _ _ (places-step (32 * a.t) l.c wide8.result (omega arith)) (sym k ∙ sym c.all_known.ensures ∙ c.if-all_known.true))
 
--- TODO no step all_Known
 pub loop-c-preserved : goal.loop-c-preserved
 loop-c-preserved c =
     let a = c.args in
@@ -33,7 +31,7 @@ loop-c-preserved c =
     let wide16 = c.wide16 in
     let at82 = c.at8-in-loop-c in
     let k = ctor-known a.arities.now a.arities.now a.arities.now a.starts.now a.fields.now a.known (32 * a.t + l.c) _ _ (wide16.ensures ∙ at16.ensures) (c.wide8.ensures ∙ at82.ensures) in
-    (omega arith, l.invariant.1, l.invariant.2, l.invariant.3 ∙ any-on (fields_known a.arities.now a.starts.now a.fields.now a.known) _ _ _ (places-step (32 * a.t) l.c wide8.result (omega arith)) (sym k ∙ sym c.before.all_Known.ensures ∙ c.if-all_known.false))
+    (omega arith, l.invariant.1, l.invariant.2, l.invariant.3 ∙ any-on (fields_known a.arities.now a.starts.now a.fields.now a.known) _ _ _ (places-step (32 * a.t) l.c wide8.result (omega arith)) (sym k ∙ sym c.all_known.ensures ∙ c.if-all_known.false))
 
 pub returns : goal.returns
 returns c =
