@@ -63,6 +63,7 @@ solid_exact : (table : Table) (ts : List Ref) (N : ℕ) (q : Row) → Typed tabl
 unfolding is_useful_step
 solid_exact table _ _ _ done nothing [] e = absurd (no_rows table 0 [] e)
 solid_exact table _ _ _ done nothing (r ∷ m) e = ap (λ (w : Walk Bool). w.calls) (useful_law table 0 (r ∷ m) [])
+solid_exact table _ _ _ (wilds y) h m e = elim h [ ]
 solid_exact table _ _ _ (lits {ts = ts} {l = l} {r = q} k y) (a_literal {n = N} h) [] e = absurd (no_rows table (suc (length ts)) (lit l ∷ q) e)
 solid_exact table _ _ _ (lits {ts = ts} {l = l} {r = q} k y) (a_literal {n = N} h) (r ∷ m) e =
     let law = useful_law table (suc (length ts)) (r ∷ m) (lit l ∷ q) in

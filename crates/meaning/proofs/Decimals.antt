@@ -28,6 +28,7 @@ Natural (d ∷ []) = (48 ≤ d) × (d < 58)
 Natural (d ∷ e ∷ ds) = (49 ≤ d) × (d < 58) × Digits (e ∷ ds)
 
 natural-digits : (a : Text) → Natural a → Digits a
+natural-digits [] h = elim h [ ]
 natural-digits (d ∷ []) h = (h.0, h.1, tt)
 natural-digits (d ∷ e ∷ ds) h = (omega (arith, h.0), h.1, h.2)
 
@@ -65,6 +66,8 @@ same_width (c ∷ a) (d ∷ b) l x y e =
 
 -- a longer text is a larger number
 longer : (a b : Text) → Natural a → Natural b → length a < length b → digits_say a < digits_say b
+longer [] b x y l = elim x [ ]
+longer (c ∷ a) [] x y l = elim y [ ]
 longer (c ∷ a) (d ∷ []) x y l = absurd (omega arith)
 longer (c ∷ a) (d ∷ e ∷ b) x y l = omega (arith, digits_lt (c ∷ a) (natural-digits (c ∷ a) x), digits_ge d (e ∷ b) y.0, pow-le-pow_right {n = 10} (lit< tt) {i = length (c ∷ a)} {j = length (e ∷ b)} (omega arith))
 

@@ -5,7 +5,7 @@ use mathlib.Core.Bool.{Bool}
 use mathlib.Core.Option.{Option, none, some, map}
 use Prim.Native.Nat.{ℕ, zero, suc, ◌+◌, ◌*◌}
 use native.Mathlib.Omega.{arith}
-use lib.ListN.{length, get_or, length-map, get_or-map}
+use lib.ListN.{length, get_or, replicate, length-map, get_or-map}
 use Rattle.scope.specs.Types.{Ref, Table, type_at, kind, fields_of}
 use Rattle.scope.specs.Constructors.{built, ctors, fields_at, arity, alts}
 use Rattle.scope.specs.Patterns.{Raw, discard, variable, assign, pair_of, integer_of, byte_string_of, list_of, constructor, tuple_of}
@@ -39,7 +39,7 @@ module _ (table table' : Table) (same-alts : (t : Ref) → alts table t ≡ alts
     wild-same : (k : Column) (n : ℕ) (m : Matrix) (q : Row) → useful_wild table again k n m q ≡ useful_wild table' again k n m q
     wild-same bare n m q = refl
     wild-same (part t) n m q = refl
-    wild-same (full t) n m q = ap (try_each _ 0) (same-alts t)
+    wild-same (full t) n m q = ap (try_each (λ c a. again (a + n) (specialize_by_ctor c a m) (replicate a wild ++ q)) 0) (same-alts t)
 
     head-same : (n : ℕ) (m : Matrix) (q : Row) → useful_head table again n m q ≡ useful_head table' again n m q
     head-same n m [] = refl
@@ -71,7 +71,7 @@ module _ (table table' : Table) (same-alts : (t : Ref) → alts table t ≡ alts
     gaps-same : (k : Column) (n : ℕ) (m : Matrix) → missing_column table again k n m ≡ missing_column table' again k n m
     gaps-same bare n m = refl
     gaps-same (part t) n m = ap (λ (ks : List (List Ref)). turned (each_row (unseen m t 0 ks)) (again n (specialize_by_wildcard m))) (same-alts t)
-    gaps-same (full t) n m = ap (gather _ t 0) (same-alts t)
+    gaps-same (full t) n m = ap (gather (λ c a. again (a + n) (specialize_by_ctor c a m)) t 0) (same-alts t)
 
     missing-step : (n : ℕ) (m : Matrix) → collect_missing_step table again n m ≡ collect_missing_step table' again n m
     unfolding collect_missing_step

@@ -140,7 +140,7 @@ module _ (table : Table) where
     wild-same : (q s : Row) → Same ts q s → (x : Column) → column table m ≡ x → useful_wild table again x n m q ≡ useful_wild table again x n p s
     wild-same q s h bare i = default_same q s h
     wild-same q s h (part u) i = default_same q s h
-    wild-same q s h (full u) i = subst (λ (v : Ref). useful_wild table again (full v) n m q ≡ useful_wild table again (full v) n p s) (full_is u k i) (try_same _ _ (alts table t) 0 each)
+    wild-same q s h (full u) i = subst (λ (v : Ref). useful_wild table again (full v) n m q ≡ useful_wild table again (full v) n p s) (full_is u k i) (try_same (λ c a. again (a + n) (specialize_by_ctor c a m) (replicate a wild ++ q)) (λ c a. again (a + n) (specialize_by_ctor c a p) (replicate a wild ++ s)) (alts table t) 0 each)
       where
         each : (j : ℕ) → again (length (get_or (alts table t) j []) + n) (specialize_by_ctor (0 + j) (length (get_or (alts table t) j [])) m) (replicate (length (get_or (alts table t) j [])) wild ++ q)
             ≡ again (length (get_or (alts table t) j []) + n) (specialize_by_ctor (0 + j) (length (get_or (alts table t) j [])) p) (replicate (length (get_or (alts table t) j [])) wild ++ s)
@@ -190,7 +190,7 @@ module _ (table : Table) where
     gaps-same : (x : Column) → column table m ≡ x → missing_column table again x n m ≡ missing_column table again x n p
     gaps-same bare i = rw default_gaps
     gaps-same (part u) i = rw (default_gaps, fun_ext (unseen_same k u 0 (alts table u)))
-    gaps-same (full u) i = subst (λ (v : Ref). missing_column table again (full v) n m ≡ missing_column table again (full v) n p) (full_is u k i) (gather-same _ _ t (alts table t) 0 each)
+    gaps-same (full u) i = subst (λ (v : Ref). missing_column table again (full v) n m ≡ missing_column table again (full v) n p) (full_is u k i) (gather-same (λ c a. again (a + n) (specialize_by_ctor c a m)) (λ c a. again (a + n) (specialize_by_ctor c a p)) t (alts table t) 0 each)
       where
         each : (j : ℕ) → again (length (get_or (alts table t) j []) + n) (specialize_by_ctor (0 + j) (length (get_or (alts table t) j [])) m) ≡ again (length (get_or (alts table t) j []) + n) (specialize_by_ctor (0 + j) (length (get_or (alts table t) j [])) p)
         each j = rw (zero-add j, ← arity-at t j) (deeper (arity table t j + n) (fields_at table t j ++ ts) _ _ (wide t j n ts e) (each-alike (specialize_row_by_ctor j (arity table t j)) (λ r r' l. row-ctor j l) k))
