@@ -15,7 +15,7 @@ use Rattle.scope.specs.Driver.{Findings, findings, too_much}
 use Rattle.scope.specs.Report.{report}
 use Rattle.scope.specs.declared.Answer.{Answer}
 use Rattle.scope.specs.declared.Answer.TheVariants.{Report, Refused}
-use Rattle.scope.specs.Answer.{said, Outcome, refused, fitted, walked, outcome_of, outcome, answer}
+use Rattle.scope.specs.Answer.{Outcome, refused, fitted, walked, outcome_of, outcome, answer}
 use Rattle.scope.proofs.Answers.{fitted_in, fitted-over, outcome_1, outcome_2, outcome-lines, judged-faulty, judged_10, judged-parsed, answer_of}
 use Rattle.refusals.specs.Cut.{Cuts}
 use Rattle.refusals.specs.Refusals.{Fault, line3, kind4, place5, over6, rest4, clash7, suit8, nodes9, Wrong, is3, is4, is5, is6, is_rest4, is7, is8, is9, Leads, Admitted, First, SaysBlock, TooMuch, first_calls, second_calls, first_cells, second_cells, missing_rows, Refuses, row1, row2, row3, row4, row4rest, row5, row5end, row6, row7, row8, row9, row10, row11, Reports}

@@ -172,6 +172,7 @@ module _ (table : Table) where
   suits-all_put : (is : List Item) → Suits table (wants is) [] → Made (all_put is)
   suits-all_put [] s = record { row = []; is = refl }
   suits-all_put (put n ∷ is) s = put-made n (suits-all_put is s)
+  suits-all_put (pat _ ∷ is) s = elim s [ ]
 
   putting-suits : (go : Ref → List Item → Option Row) (p : Raw) (ps : List Raw)
       → ((t : Ref) (rest : List Item) → Made (go t rest) → Suits table (t ∷ wants rest) (p ∷ ps))
@@ -183,6 +184,7 @@ module _ (table : Table) where
   suits-putting : (go : Ref → List Item → Option Row) (p : Raw) (ps : List Raw)
       → ((t : Ref) (rest : List Item) → Suits table (t ∷ wants rest) (p ∷ ps) → Made (go t rest))
       → (is : List Item) → Suits table (wants is) (p ∷ ps) → Made (putting is go)
+  suits-putting go p ps k [] s = elim s [ ]
   suits-putting go p ps k (put n ∷ is) s = put-made n (suits-putting go p ps k is s)
   suits-putting go p ps k (pat t ∷ is) s = k t is s
 
