@@ -355,6 +355,7 @@ module _ (table : Table) where
   read_right t rest ts p ps q vs new e h r = record { to = λ g. to vs h (r.to g); back = λ x. r.back (back h x.leaves x.takes) }
     where
       to : (ws : Vals) → HasTypes table (t ∷ ts) ws → Found (new ++ rest) ps ws → Found (pat t ∷ rest) (p ∷ ps) ws
+      to []ᵛ a x = elim a [ ]
       to (v ∷ᵛ ws) a x =
           let o = opened-leaves t ts rest v ws a x.left p new e x.leaves in
           record { left = v ∷ᵛ o.left; leaves = pats o.after; takes = TakesEach.also o.opens (subst (TakesEach ps) o.is x.takes) }
