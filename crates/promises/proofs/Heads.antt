@@ -38,6 +38,7 @@ data Past : Phase → Type 0 where
 late : {p : Phase} {k : ℕ} → Past p → Stands p k → (k ≡ clause_frames) ⊎ (k ≡ end_frames)
 late in_clauses Stands.a_clause = inl refl
 late in_clauses Stands.the_end = inr refl
+late at_end h = elim h [ ]
 
 early : {s : State} {l : Line} {f : Frame} → Past s.phase → Fine s l → Says l f → ((frame_kind f ≡ clause_frames) ⊎ (frame_kind f ≡ end_frames) → ⊥) → ⊥
 early {s} past x a n = x.fine place5 (Wrong.is5 (KindIs.kind_is a.first (record { nowhere = λ h. n (late past (subst (Stands s.phase) (kind-is a.holds) h)) })))

@@ -1,5 +1,5 @@
 -- Request 13 holds of any two reviews: from what verdicts and missing rows owe to rows, from the words of a report, and from whose rows the clauses are.
-use mathlib.Core.Path.{◌≡◌, refl, ap, sym, subst, ◌∙◌}
+use mathlib.Core.Path.{◌≡◌, refl, ap, ap₂, sym, subst, ◌∙◌}
 use mathlib.Core.List.{List, [], ◌∷◌, ◌++◌, map, append_assoc, Mem}
 use mathlib.Core.Bool.{Bool, true, false}
 use mathlib.Core.Logic.{◌↔◌}
@@ -50,7 +50,7 @@ abbrev lower_of : Table → Matrix → List Text
 lower_of table m = gaps_text (length m) ∷ pair_texts table m
 
 lower-same : {table table' : Table} {m m' : Matrix} {n n' : ℕ} (first : ℕ) → table ≡ table' → m ≡ m' → n ≡ n' → lower_of table m ++ calls_text first n ∷ [] ≡ lower_of table' m' ++ calls_text first n' ∷ []
-lower-same first e f g = rw (e, f, g)
+lower-same first e f g = ap₂ (λ (above : List Text) (n : ℕ). above ++ calls_text first n ∷ []) (ap₂ lower_of e f) g
 
 same_parts : {table table' : Table} {t t' : Ref} {m m' : Matrix} → table ≡ table' → t ≡ t' → m ≡ m' → ◌≡◌ {A = Block} (record { table = table; subject = t; rows = m }) (record { table = table'; subject = t'; rows = m' })
 same_parts e f g = rw (e, f, g)
