@@ -1,12 +1,11 @@
-// `check` for programs in C and Rust, which the static library exports.
+// `check` for programs in C and Rust, which the static library of block_c exports.
 ghost use Rattle.block.specs.Called.{Called};
 
 use crate::check;
 use numbers::tell;
 
 // The answer's number, 0 for a report; its line and the report's length through the last two.
-#[unsafe(no_mangle)]
-pub extern "C" fn gatesorrel_check(
+pub fn gatesorrel_check(
     file: &[u8],
     scratch: &mut [u16],
     report: &mut [u8],

@@ -15,7 +15,7 @@ pub mod admitting;
 pub mod shape;
 
 // The line's bytes, and a place in them.
-#[derive(Drop)]
+#[derive(Clone, Copy)]
 pub struct Reader<'a> {
     pub line: &'a [u8],
     pub at: usize,

@@ -5,7 +5,7 @@ ghost use Rattle.std.specs.Prelude.{◌≡◌, ◌&&◌, ◌+◌, ◌≤◌, ltb
 ghost use Rattle.scope.specs.Limits.{max_file, max_constructors, max_in_type, max_nodes};
 ghost use Rattle.order.specs.Phases.{stands_in, closes_in, room_in, Numbers};
 
-#[derive(Drop)]
+#[derive(Clone, Copy)]
 pub struct State {
     pub phase: u8,
     pub types: usize,

@@ -6,7 +6,7 @@ ghost use Rattle.scope.specs.Lists.{bit};
 ghost use Rattle.scope.specs.Blocks.{ok};
 ghost use Rattle.outcomes.specs.Past.{said_verdict, said_spelt, said_seek, past, fitting, counting};
 
-#[derive(Drop)]
+#[derive(Clone, Copy)]
 pub enum Verdict {
     Done { yes: bool, calls: usize },
     Over,
