@@ -1,7 +1,6 @@
 -- `fields::byte` meets its contract: a byte that passes no test.
 use mathlib.Core.Path.{refl, ◌∙◌}
 use Rattle.fields.proofs.Readers.{tells, any, passing-ends, passing-goes, byte_at}
-use borrow.Author.Rules.{rules}
 use Rattle.fields.proofs.byte.Goals as goal
 
 pub returns-then-bytes-at : goal.returns-then-bytes-at

@@ -1,15 +1,10 @@
 -- `fields::letters` meets its contract: the bytes still to read from p on reach what all reach.
-use Prim.Native.Nat.{◌+◌, ◌≤◌}
-use mathlib.Core.Path.{◌≡◌, refl, sym, ◌∙◌}
+use Prim.Native.Nat.{◌≤◌}
+use mathlib.Core.Path.{◌≡◌}
 use mathlib.Core.Bool.{false}
-use native.Mathlib.Omega.{arith}
 use lib.ListN.{length}
-use borrow.Author.Tests.{not-true, not-false}
 use Rattle.scope.specs.Frames.{passing, times}
-use Rattle.fields.specs.declared.Read.TheVariants.{Fault}
 use Rattle.fields.specs.Places.{read_at, letter_of}
-use Rattle.fields.proofs.Readers.{read-stops, read-passes, passed-reached, times-stops, times_goes, times-done}
-use Rattle.fields.proofs.Readings.{letter-zero}
 use Rattle.fields.proofs.letters.Given as goal
 
 abbrev pub invariant-loop-left : goal.invariant-loop-left

@@ -1,23 +1,20 @@
 -- `fields::name` meets its contract: its length, its first byte, the others.
 use mathlib.Core.Path.{sym, ◌∙◌}
-use native.Mathlib.Omega.{arith}
-use borrow.Author.Tests.{not-true, not-false}
-use Rattle.fields.proofs.Readings.{name-length, name-counted, name-first, name-begun, name-others}
-use borrow.Author.Rules.{rules}
+use Rattle.fields.proofs.Readings.{name-length, name-first, name-others}
 use Rattle.fields.proofs.Readers.{tells}
 use Rattle.fields.proofs.name.Goals as goal
 
 pub returns-then-not-is_name_length : goal.returns-then-not-is_name_length
 returns-then-not-is_name_length c =
     let a = c.args in
-    tells _ _ _ (name-length a.big a.bytes.now a.at c.at8-n.result c.requires c.at8-n.ensures (sym c.is_name_length.ensures ∙ not-true _ c.if-not-is_name_length.true))
+    tells _ _ _ (name-length a.big a.bytes.now a.at c.at8-n.result c.requires c.at8-n.ensures (sym c.is_name_length.ensures ∙ c.if-not-is_name_length.true))
 
 pub returns-then-not-is_letter : goal.returns-then-not-is_letter
 returns-then-not-is_letter c =
     let a = c.args in
-    tells _ _ _ (name-first a.big a.bytes.now a.at c.at8-n.result c.requires c.at8-n.ensures c.at8.result c.at8.ensures (sym c.is_name_length.ensures ∙ not-false _ c.if-not-is_name_length.false) (sym c.is_letter.ensures ∙ not-true _ c.if-not-is_letter.true))
+    tells _ _ _ (name-first a.big a.bytes.now a.at c.at8-n.result c.requires c.at8-n.ensures c.at8.result c.at8.ensures (sym c.is_name_length.ensures ∙ c.if-not-is_name_length.false) (sym c.is_letter.ensures ∙ c.if-not-is_letter.true))
 
 pub returns : goal.returns
 returns c =
     let a = c.args in
-    tells _ _ _ (name-others a.big a.bytes.now a.at c.at8-n.result c.requires c.at8-n.ensures c.at8.result c.at8.ensures (sym c.is_name_length.ensures ∙ not-false _ c.if-not-is_name_length.false) c.letters.result c.wide8.result c.wide8.ensures (sym c.is_letter.ensures ∙ not-false _ c.if-not-is_letter.false) c.letters.ensures)
+    tells _ _ _ (name-others a.big a.bytes.now a.at c.at8-n.result c.requires c.at8-n.ensures c.at8.result c.at8.ensures (sym c.is_name_length.ensures ∙ c.if-not-is_name_length.false) c.letters.result c.wide8.result c.wide8.ensures (sym c.is_letter.ensures ∙ c.if-not-is_letter.false) c.letters.ensures)

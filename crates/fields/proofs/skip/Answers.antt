@@ -1,6 +1,5 @@
 -- `fields::skip` meets its contract: as many bytes as are there, or a fault at the end.
 use Rattle.fields.proofs.Readers.{tells, bytes-stop, bytes-go}
-use borrow.Author.Rules.{rules}
 use Rattle.fields.proofs.skip.Goals as goal
 
 pub returns-then-bytes-at : goal.returns-then-bytes-at

@@ -1,9 +1,7 @@
 -- `fields::within` meets its contract: a byte that passes the test.
 use mathlib.Core.Path.{sym, ◌∙◌}
-use borrow.Author.Tests.{not-true, not-false}
 use Rattle.scope.specs.Lists.{among}
 use Rattle.fields.proofs.Readers.{tells, passing-ends, passing-stops, passing-goes}
-use borrow.Author.Rules.{rules}
 use Rattle.fields.proofs.within.Goals as goal
 
 pub returns-then-bytes-at : goal.returns-then-bytes-at
@@ -12,8 +10,8 @@ returns-then-bytes-at c =
 
 pub returns-then-not-among : goal.returns-then-not-among
 returns-then-not-among c =
-    tells _ _ _ (passing-stops (among c.args.lo c.args.hi) c.args.bytes.now c.args.at c.if-bytes-at.false (sym c.among.ensures ∙ not-true _ c.if-not-among.true))
+    tells _ _ _ (passing-stops (among c.args.lo c.args.hi) c.args.bytes.now c.args.at c.if-bytes-at.false (sym c.among.ensures ∙ c.if-not-among.true))
 
 pub returns : goal.returns
 returns c =
-    tells _ _ _ (passing-goes (among c.args.lo c.args.hi) c.args.bytes.now c.args.at c.if-bytes-at.false (sym c.among.ensures ∙ not-false _ c.if-not-among.false))
+    tells _ _ _ (passing-goes (among c.args.lo c.args.hi) c.args.bytes.now c.args.at c.if-bytes-at.false (sym c.among.ensures ∙ c.if-not-among.false))
