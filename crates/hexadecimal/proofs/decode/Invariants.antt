@@ -1,14 +1,9 @@
--- `hex::decode` meets its contract: in turn k the bytes before byte k are written.
-use Prim.Native.Nat.{ℕ, ◌≤◌, ◌+◌, ◌-◌, ◌/◌}
-use mathlib.Core.List.{List}
-use mathlib.Core.Path.{◌≡◌, refl, ap, ◌∙◌}
-use lib.ListN.{length, take, set}
-use lib.Seq.{sets, length-sets}
-use Rattle.scope.specs.Lines.{is_hex, unhex}
-use Rattle.scope.proofs.Tests.{all-at}
-use Rattle.hexadecimal.proofs.Hexadecimal.{length-unhex, decode-next, decode-done}
-use borrow.Author.Rules.{rules}
-use native.Mathlib.Omega.{arith}
+-- `hexadecimal::decode` meets its contract: in turn k the bytes before byte k are written.
+use Prim.Native.Nat.{◌≤◌, ◌-◌, ◌/◌}
+use mathlib.Core.Path.{◌≡◌}
+use lib.ListN.{length, take}
+use lib.Seq.{sets}
+use Rattle.scope.specs.Lines.{unhex}
 use Rattle.hexadecimal.proofs.decode.Given as goal
 
 abbrev pub invariant-loop-k : goal.invariant-loop-k

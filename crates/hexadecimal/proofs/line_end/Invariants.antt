@@ -1,11 +1,8 @@
--- `hex::line_end` meets its contract: the characters up to i and those before the next line feed are those of the line.
+-- `hexadecimal::line_end` meets its contract: the characters up to i and those before the next line feed are those of the line.
 use Prim.Native.Nat.{◌≤◌, ◌+◌, ◌-◌}
-use mathlib.Core.Path.{◌≡◌, refl, ap}
-use lib.ListN.{length, drop, drop_of_length-le}
+use mathlib.Core.Path.{◌≡◌}
+use lib.ListN.{length, drop}
 use Rattle.hexadecimal.specs.Digits.{digits}
-use Rattle.hexadecimal.proofs.Hexadecimal.{digits-stops, digits-goes}
-use borrow.Author.Rules.{rules}
-use native.Mathlib.Omega.{arith}
 use Rattle.hexadecimal.proofs.line_end.Given as goal
 
 abbrev pub invariant-loop-i : goal.invariant-loop-i
