@@ -1,11 +1,8 @@
 -- `column::all` meets its contract: the flags before i are up.
 use Rattle.column.proofs.Columns.{up_more, up_fail}
 use Rattle.matrix.specs.Places.{up_to}
-use borrow.Author.Tests.{not-true, not-false}
 use native.Mathlib.Omega.{arith}
-use Prim.Native.Nat.{ℕ, ◌-◌, ◌≤◌}
-use mathlib.Core.Bool.{true}
-use mathlib.Core.Path.{◌≡◌, refl, sym, subst}
+use mathlib.Core.Path.{refl}
 use Rattle.column.proofs.all.Goals as goal
 
 pub loop-i-init : goal.loop-i-init

@@ -2,14 +2,13 @@
 use Rattle.column.proofs.Columns.{first_on, first-lit, first-here, head-among}
 use Rattle.matrix.specs.Places.{head_at}
 use Rattle.matrix.specs.Numbers.{first_of}
-use lib.ListN.{length, get_or, drop, drop_of_length-le}
-use borrow.Author.Rules.{rules}
+use lib.ListN.{get_or, drop_of_length-le}
 use native.Mathlib.Omega.{arith}
-use Prim.Native.Nat.{ℕ, ◌+◌, ◌-◌, ◌≤◌}
+use Prim.Native.Nat.{ℕ}
 use mathlib.Core.List.{List, map}
-use mathlib.Core.Logic.{⊎_elim}
-use mathlib.Core.Path.{◌≡◌, refl, sym, ap, subst, ◌∙◌}
+use mathlib.Core.Path.{◌≡◌, sym, ap, subst, ◌∙◌}
 use Rattle.column.proofs.first.Goals as goal
+use Rattle.column.proofs.first.Goals.{then-h-gt0+then-h-lt32768+else-loop-c-test, then-h-gt0+else-h-lt32768, else-h-gt0}
 
 pub search-preserved : goal.search-preserved
 search-preserved c =
@@ -19,10 +18,11 @@ search-preserved c =
     let f = head_at a.nodes.now a.left.now a.n in
     let e : c.head-h.result ≡ f (get_or a.ps.now i 0) = c.head-h.ensures ∙ ap f c.wide16.ensures in
     let inv = c.search.invariant in
-    ⊎_elim
-    (λ w. absurd (omega (arith, head-among a.counts.now f a.ps.now c.requires i c.head-h.result w.2.result w.3.result lt e w.0.taken w.1.taken w.2.ensures w.3.ensures, w.4.inv.2, w.5.left)))
-    (⊎_elim (λ w. (omega arith, w.2 ∙ inv.1, sym (first-lit f a.ps.now i lt (omega (arith, w.1.left))) ∙ inv.2)) (λ w. (omega arith, w.1 ∙ inv.1, sym (first_on f a.ps.now i lt (omega (arith, w.0.left))) ∙ inv.2)))
-    c.if-h-gt0.branch
+    elim c.if-h-gt0.branch [
+      | then-h-gt0+then-h-lt32768+else-loop-c-test w ↦ absurd (omega (arith, head-among a.counts.now f a.ps.now c.requires i c.head-h.result w.base-b.result w.count-k.result lt e w.if-h-gt0.true w.if-h-lt32768.true w.base-b.ensures w.count-k.ensures, w.loop-c.invariant.2, w.loop-c-test.false))
+      | then-h-gt0+else-h-lt32768 w ↦ (omega arith, w.found-is ∙ inv.1, sym (first-lit f a.ps.now i lt (omega (arith, w.if-h-lt32768.false))) ∙ inv.2)
+      | else-h-gt0 w ↦ (omega arith, w.found-is ∙ inv.1, sym (first_on f a.ps.now i lt (omega (arith, w.if-h-gt0.false))) ∙ inv.2)
+    ]
 
 pub returns-after-search : goal.returns-after-search
 unfolding first_of

@@ -1,14 +1,10 @@
 -- `column::first` meets its contract: the column from row i on begins as the whole of it, and a constructor is found among its type's.
-use Rattle.column.proofs.Columns.{first_on, first-lit, first-here, head-among}
 use Rattle.matrix.specs.Places.{head_at}
 use Rattle.matrix.specs.Numbers.{first_of}
-use lib.ListN.{length, get_or, drop, drop_of_length-le}
-use borrow.Author.Rules.{rules}
-use native.Mathlib.Omega.{arith}
-use Prim.Native.Nat.{ℕ, ◌+◌, ◌-◌, ◌≤◌}
-use mathlib.Core.List.{List, map}
-use mathlib.Core.Logic.{⊎_elim}
-use mathlib.Core.Path.{◌≡◌, refl, sym, ap, subst, ◌∙◌}
+use lib.ListN.{length, drop}
+use Prim.Native.Nat.{◌+◌, ◌-◌, ◌≤◌}
+use mathlib.Core.List.{map}
+use mathlib.Core.Path.{◌≡◌}
 use Rattle.column.proofs.first.Given as goal
 
 abbrev pub invariant-loop-c : goal.invariant-loop-c

@@ -1,13 +1,11 @@
 -- `column::seen` meets its contract: the flags are right of the rows before i.
-use Rattle.column.proofs.Columns.{Flags, flags-start, flags-end, flags_miss, flags_hit}
+use Rattle.column.proofs.Columns.{flags-start, flags-end, flags_miss, flags_hit}
 use Rattle.matrix.specs.Places.{head_at}
-use lib.ListN.{length, get_or}
-use borrow.Author.Rules.{rules}
+use lib.ListN.{get_or}
 use native.Mathlib.Omega.{arith}
-use Prim.Native.Nat.{◌-◌, ◌≤◌}
-use mathlib.Core.Logic.{⊎_elim}
 use mathlib.Core.Path.{◌≡◌, ap, ◌∙◌}
 use Rattle.column.proofs.seen.Goals as goal
+use Rattle.column.proofs.seen.Goals.{then-b-h+then-c-lt32, then-b-h+else-c-lt32, else-b-h}
 
 pub loop-i-init : goal.loop-i-init
 loop-i-init c =
@@ -25,10 +23,11 @@ loop-i-preserved c =
     let old = c.loop-i.flags in
     let new = c.if-b-h.flags in (
       omega arith,
-      ⊎_elim (λ w. flags_hit f a.ps.now a.b i old new w.1.result lt ok w.3 w.2.taken (omega (arith, w.1.ensures, w.0.taken)))
-          (⊎_elim (λ w. flags_miss f a.ps.now a.b i old new lt ok w.3 (λ k l q. omega (arith, w.1.ensures, w.0.taken, w.2.left)))
-          (λ w. flags_miss f a.ps.now a.b i old new lt ok w.1 (λ k l q. omega (arith, w.0.left))))
-          c.if-b-h.branch,
+      elim c.if-b-h.branch [
+        | then-b-h+then-c-lt32 w ↦ flags_hit f a.ps.now a.b i old new w.wide16-c.result lt ok w.flags-is w.if-c-lt32.true (omega (arith, w.wide16-c.ensures, w.if-b-h.true))
+        | then-b-h+else-c-lt32 w ↦ flags_miss f a.ps.now a.b i old new lt ok w.flags-is (λ k l q. omega (arith, w.wide16-c.ensures, w.if-b-h.true, w.if-c-lt32.false))
+        | else-b-h w ↦ flags_miss f a.ps.now a.b i old new lt ok w.flags-is (λ k l q. omega (arith, w.if-b-h.false))
+      ],
     )
 
 pub returns : goal.returns

@@ -1,12 +1,8 @@
 -- `column::seen` meets its contract: the flags are right of the rows before i.
-use Rattle.column.proofs.Columns.{Flags, flags-start, flags-end, flags_miss, flags_hit}
+use Rattle.column.proofs.Columns.{Flags}
 use Rattle.matrix.specs.Places.{head_at}
-use lib.ListN.{length, get_or}
-use borrow.Author.Rules.{rules}
-use native.Mathlib.Omega.{arith}
+use lib.ListN.{length}
 use Prim.Native.Nat.{◌-◌, ◌≤◌}
-use mathlib.Core.Logic.{⊎_elim}
-use mathlib.Core.Path.{◌≡◌, ap, ◌∙◌}
 use Rattle.column.proofs.seen.Given as goal
 
 abbrev pub invariant-loop-i : goal.invariant-loop-i
