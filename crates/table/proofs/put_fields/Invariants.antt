@@ -1,11 +1,9 @@
 -- `table::put_fields` meets its contract: what is written and what is still to come are the whole run.
-use mathlib.Core.Path.{◌≡◌, refl, ◌∙◌}
+use mathlib.Core.Path.{◌≡◌}
 use Prim.Native.Nat.{◌+◌, ◌-◌, ◌≤◌}
-use native.Mathlib.Omega.{arith}
-use lib.ListN.{length, get_or}
+use lib.ListN.{length}
 use lib.Seq.{sets}
 use Rattle.layout.specs.Places.{places, reads}
-use Rattle.layout.proofs.Loops.{places-on, places-end, run-start, run_step, run_end}
 use Rattle.table.proofs.put_fields.Given as goal
 
 abbrev pub invariant-loop-k : goal.invariant-loop-k

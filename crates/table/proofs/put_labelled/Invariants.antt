@@ -1,12 +1,9 @@
 -- `table::put_labelled` meets its contract: in both tables what is written and what is still to come are the whole run.
-use mathlib.Core.Path.{◌≡◌, refl, ◌∙◌}
+use mathlib.Core.Path.{◌≡◌}
 use mathlib.Core.List.{map}
 use Prim.Native.Nat.{◌+◌, ◌-◌, ◌*◌, ◌≤◌}
-use native.Mathlib.Omega.{arith}
-use lib.ListN.{get_or}
 use lib.Seq.{sets}
 use Rattle.layout.specs.Places.{labelled, reads}
-use Rattle.layout.proofs.Loops.{labelled_step, labelled-end, run-start, run_step, run_end}
 use Rattle.table.specs.Build.{low}
 use Rattle.table.proofs.put_labelled.Given as goal
 

@@ -1,11 +1,9 @@
 -- `table::put_starts` meets its contract: what is written and what is still to come are the whole run.
-use mathlib.Core.Path.{◌≡◌, ap, ◌∙◌}
-use Prim.Native.Nat.{◌+◌, ◌-◌, ◌≤◌}
-use native.Mathlib.Omega.{arith}
+use mathlib.Core.Path.{◌≡◌}
+use Prim.Native.Nat.{◌-◌, ◌≤◌}
 use lib.ListN.{replicate}
 use lib.Seq.{sets}
 use Rattle.table.specs.Build.{low}
-use Rattle.table.proofs.Stores.{fill_on, fill_end}
 use Rattle.table.proofs.put_starts.Given as goal
 
 abbrev pub invariant-loop-k : goal.invariant-loop-k
