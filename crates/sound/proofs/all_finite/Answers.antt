@@ -1,8 +1,6 @@
 -- `sound::all_finite` meets its contract: after n rounds the flags are what n rounds know.
-use mathlib.Core.Path.{◌≡◌, ◌∙◌}
-use Prim.Native.Nat.{◌-◌, ◌≤◌}
+use mathlib.Core.Path.{◌∙◌}
 use native.Mathlib.Omega.{arith}
-use Rattle.sound.specs.Sound.{flags, known_in}
 use Rattle.sound.proofs.Known.{known_start, known_next, known-last}
 use Rattle.sound.proofs.all_finite.Goals as goal
 

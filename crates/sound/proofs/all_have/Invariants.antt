@@ -1,13 +1,9 @@
 -- `sound::all_have` meets its contract: the types that are left decide.
-use mathlib.Core.Path.{◌≡◌, sym, ap, ◌∙◌}
+use mathlib.Core.Path.{◌≡◌}
 use Prim.Native.Nat.{◌-◌, ◌≤◌}
-use native.Mathlib.Nat.{sub-zero}
-use native.Mathlib.Omega.{arith}
-use borrow.Author.Tests.{not-true, not-false}
 use Rattle.scope.specs.Lists.{all}
 use Rattle.layout.specs.Places.{places}
 use Rattle.sound.specs.Sound.{value_in}
-use Rattle.layout.proofs.Loops.{places-next, places-end, all-on, all_off, all_end}
 use Rattle.sound.proofs.all_have.Given as goal
 
 abbrev pub invariant-loop-t : goal.invariant-loop-t

@@ -1,7 +1,6 @@
 -- `sound::has_value` meets its contract: the kind decides, or the constructors.
 use mathlib.Core.Path.{◌∙◌}
 use Rattle.sound.proofs.Known.{value_simple, value-ctors}
-use borrow.Author.Rules.{rules}
 use Rattle.sound.proofs.has_value.Goals as goal
 
 pub returns-then-at8-le3 : goal.returns-then-at8-le3

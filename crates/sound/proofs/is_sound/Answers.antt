@@ -1,8 +1,6 @@
 -- `sound::is_sound` meets its contract: the subject, the fields, then the rounds.
 use mathlib.Core.Path.{sym, ◌∙◌}
-use borrow.Author.Tests.{not-true, not-false}
 use Rattle.sound.proofs.Known.{no_subject, no_field, all-refs}
-use borrow.Author.Rules.{rules}
 use Rattle.sound.proofs.is_sound.Goals as goal
 
 pub returns-then-types-subject : goal.returns-then-types-subject

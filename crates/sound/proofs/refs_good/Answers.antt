@@ -1,13 +1,9 @@
 -- `sound::refs_good` meets its contract: what is left to look at decides.
-use mathlib.Core.Path.{◌≡◌, sym, ap, ◌∙◌}
-use Prim.Native.Nat.{◌-◌, ◌≤◌}
-use native.Mathlib.Nat.{sub-zero}
+use mathlib.Core.Path.{sym, ◌∙◌}
 use native.Mathlib.Omega.{arith}
 use borrow.Author.Tests.{lt-ltb, le-ltb}
 use lib.ListN.{get_or}
 use lib.Dec.{ltb}
-use Rattle.scope.specs.Lists.{all}
-use Rattle.layout.specs.Places.{places, reads}
 use Rattle.layout.proofs.Loops.{all-on, all_off, all_end, reads-next, reads_end}
 use Rattle.sound.proofs.refs_good.Goals as goal
 

@@ -1,14 +1,11 @@
 -- `sound::round` meets its contract: the flags that are set and those still to come are the whole round.
-use mathlib.Core.Path.{◌≡◌, refl, ap, ◌∙◌}
+use mathlib.Core.Path.{◌≡◌}
 use mathlib.Core.List.{map}
-use Prim.Native.Nat.{◌+◌, ◌-◌, ◌≤◌}
-use native.Mathlib.Nat.{sub-zero}
-use native.Mathlib.Omega.{arith}
-use lib.ListN.{length, length-set}
+use Prim.Native.Nat.{◌-◌, ◌≤◌}
+use lib.ListN.{length}
 use lib.Seq.{sets}
 use Rattle.layout.specs.Places.{places}
 use Rattle.sound.specs.Sound.{flags, value_in}
-use Rattle.layout.proofs.Loops.{places-next, places-end, run_step, run_end}
 use Rattle.sound.proofs.round.Given as goal
 
 abbrev pub invariant-loop-t : goal.invariant-loop-t

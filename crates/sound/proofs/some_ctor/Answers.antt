@@ -1,11 +1,7 @@
 -- `sound::some_ctor` meets its contract: the constructors that are left decide.
-use mathlib.Core.Path.{◌≡◌, sym, ap, ◌∙◌}
-use Prim.Native.Nat.{◌+◌, ◌-◌, ◌*◌, ◌≤◌, ◌<◌}
-use native.Mathlib.Nat.{add-zero, sub-zero}
+use mathlib.Core.Path.{sym, ◌∙◌}
+use Prim.Native.Nat.{◌+◌, ◌*◌}
 use native.Mathlib.Omega.{arith}
-use lib.ListN.{get_or}
-use Rattle.scope.specs.Lists.{any}
-use Rattle.layout.specs.Places.{places}
 use Rattle.sound.specs.Sound.{fields_known}
 use Rattle.layout.proofs.Loops.{places-step, places-end, any-on, any_off, any-end}
 use Rattle.sound.proofs.Known.{ctor-known}
