@@ -27,7 +27,7 @@ opens-set stack i x (suc k) h = rw (get_or-set_other stack i (3 * k) x 0 (λ e. 
 pub pushed : (stack stack' : List ℕ) (d : ℕ) (o : Open) → 3 * d + 3 ≤ length stack → stack' ≡ sets stack (3 * d) (o.what ∷ o.more ∷ o.field ∷ []) → opens stack' (d + 1) ≡ o ∷ opens stack d
 unfolding opens
 pushed stack stack' d o room e =
-    rw add-one d (subst (λ (s : List ℕ). opens s (suc d) ≡ o ∷ opens stack d) (sym e) (ap₂ (λ (f : Open) (fs : List Open). f ∷ fs) there below))
+    rw (add-one d) (subst (λ (s : List ℕ). opens s (suc d) ≡ o ∷ opens stack d) (sym e) (ap₂ (λ (f : Open) (fs : List Open). f ∷ fs) there below))
   where
     s₁ : List ℕ
     s₁ = set stack (3 * d) o.what

@@ -1,10 +1,10 @@
 -- `nodes::count_left` meets its contract: before i, `left` has what the nodes before i leave.
 use mathlib.Core.Path.{◌≡◌, sym, ap, ◌∙◌}
-use Prim.Native.Nat.{ℕ, ◌+◌, ◌*◌, ◌-◌, ◌≤◌}
+use Prim.Native.Nat.{ℕ, ◌+◌, ◌-◌}
 use native.Mathlib.Omega.{arith}
 use mathlib.Core.List.{List, map}
 use lib.ListN.{length, get_or, take, drop, set, length-drop}
-use lib.Seq.{sets, length-sets, take_all, get_or-take, get_or-drop, length-take-le}
+use lib.Seq.{sets, get_or-take, get_or-drop, length-take-le}
 use Rattle.nodes.specs.Keys.{low16}
 use Rattle.nodes.specs.Lefts.{arity_of, lefts_of, left_after}
 use Rattle.nodes.proofs.Lefts.{left-none, after_none, left-next, after_next}

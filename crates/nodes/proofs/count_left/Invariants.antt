@@ -1,13 +1,11 @@
 -- `nodes::count_left` meets its contract: before i, `left` has what the nodes before i leave.
-use mathlib.Core.Path.{◌≡◌, sym, ap, ◌∙◌}
-use Prim.Native.Nat.{ℕ, ◌+◌, ◌*◌, ◌-◌, ◌≤◌}
-use native.Mathlib.Omega.{arith}
-use mathlib.Core.List.{List, map}
-use lib.ListN.{length, get_or, take, drop, set, length-drop}
-use lib.Seq.{sets, length-sets, take_all, get_or-take, get_or-drop, length-take-le}
+use mathlib.Core.Path.{◌≡◌}
+use Prim.Native.Nat.{◌+◌, ◌*◌, ◌-◌, ◌≤◌}
+use mathlib.Core.List.{map}
+use lib.ListN.{take, drop}
+use lib.Seq.{sets}
 use Rattle.nodes.specs.Keys.{low16}
-use Rattle.nodes.specs.Lefts.{arity_of, lefts_of, left_after}
-use Rattle.nodes.proofs.Lefts.{left-none, after_none, left-next, after_next}
+use Rattle.nodes.specs.Lefts.{lefts_of, left_after}
 use Rattle.nodes.proofs.count_left.Given as goal
 
 abbrev pub invariant-loop-i : goal.invariant-loop-i

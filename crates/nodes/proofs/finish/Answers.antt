@@ -1,20 +1,13 @@
 -- `nodes::finish` meets its contract: the end of a list, or wildcards.
 use Rattle.nodes.proofs.Marks.{finish-list, finish-args}
-use borrow.Author.Rules.{rules}
 use Rattle.nodes.proofs.finish.Goals as goal
 
-pub returns-then-what-ge32768-clause-value : goal.returns-then-what-ge32768-clause-value
-returns-then-what-ge32768-clause-value c =
-    (finish-list c.args.nodes.now c.put16.new.s c.args.at c.args.what c.list_type.result c.key.result c.put16.result c.if-what-ge32768.true c.list_type.ensures.0 c.put16.ensures.value c.put16.ensures.s_after c.key.ensures).0
+pub returns-then-what-ge32768 : goal.returns-then-what-ge32768
+returns-then-what-ge32768 c =
+    let both = finish-list c.args.nodes.now c.put16.new.s c.args.at c.args.what c.list_type.result c.key.result c.put16.result c.if-what-ge32768.true c.list_type.ensures.0 c.put16.ensures.value c.put16.ensures.s_after c.key.ensures in
+    record { value = both.0; nodes_after = both.1 }
 
-pub returns-then-what-ge32768-clause-nodes_after : goal.returns-then-what-ge32768-clause-nodes_after
-returns-then-what-ge32768-clause-nodes_after c =
-    (finish-list c.args.nodes.now c.put16.new.s c.args.at c.args.what c.list_type.result c.key.result c.put16.result c.if-what-ge32768.true c.list_type.ensures.0 c.put16.ensures.value c.put16.ensures.s_after c.key.ensures).1
-
-pub returns-clause-value : goal.returns-clause-value
-returns-clause-value c =
-    (finish-args c.args.nodes.now c.put_many.new.nodes c.args.at c.args.what c.wide16.result c.put_many.result c.if-what-ge32768.false c.wide16.ensures c.put_many.ensures.value c.put_many.ensures.nodes_after).0
-
-pub returns-clause-nodes_after : goal.returns-clause-nodes_after
-returns-clause-nodes_after c =
-    (finish-args c.args.nodes.now c.put_many.new.nodes c.args.at c.args.what c.wide16.result c.put_many.result c.if-what-ge32768.false c.wide16.ensures c.put_many.ensures.value c.put_many.ensures.nodes_after).1
+pub returns : goal.returns
+returns c =
+    let both = finish-args c.args.nodes.now c.put_many.new.nodes c.args.at c.args.what c.wide16.result c.put_many.result c.if-what-ge32768.false c.wide16.ensures c.put_many.ensures.value c.put_many.ensures.nodes_after in
+    record { value = both.0; nodes_after = both.1 }

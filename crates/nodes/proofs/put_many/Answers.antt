@@ -1,11 +1,10 @@
 -- `nodes::put_many` meets its contract: i nodes are stored.
 use mathlib.Core.List.{List}
 use Rattle.nodes.proofs.Runs.{many-next}
-use lib.Seq.{sets, length-sets}
-use lib.ListN.{length, set, replicate}
+use lib.ListN.{set}
 use native.Mathlib.Omega.{arith}
-use Prim.Native.Nat.{ℕ, ◌+◌, ◌-◌, ◌≤◌}
-use mathlib.Core.Path.{◌≡◌, refl, ap, ◌∙◌}
+use Prim.Native.Nat.{ℕ, ◌+◌}
+use mathlib.Core.Path.{ap, ◌∙◌}
 use Rattle.nodes.proofs.put_many.Goals as goal
 
 pub loop-i-preserved : goal.loop-i-preserved

@@ -1,11 +1,8 @@
 -- `nodes::put_many` meets its contract: i nodes are stored.
-use mathlib.Core.List.{List}
-use Rattle.nodes.proofs.Runs.{many-next}
-use lib.Seq.{sets, length-sets}
-use lib.ListN.{length, set, replicate}
-use native.Mathlib.Omega.{arith}
-use Prim.Native.Nat.{ℕ, ◌+◌, ◌-◌, ◌≤◌}
-use mathlib.Core.Path.{◌≡◌, refl, ap, ◌∙◌}
+use lib.Seq.{sets}
+use lib.ListN.{replicate}
+use Prim.Native.Nat.{◌-◌, ◌≤◌}
+use mathlib.Core.Path.{◌≡◌}
 use Rattle.nodes.proofs.put_many.Given as goal
 
 abbrev pub invariant-loop-i : goal.invariant-loop-i

@@ -2,7 +2,6 @@
 use mathlib.Core.Path.{refl, ap, ◌∙◌}
 use Prim.Native.Nat.{ℕ, ◌+◌, ◌-◌, ◌%◌}
 use Rattle.nodes.proofs.Marks.{taken-list, taken-args}
-use borrow.Author.Rules.{rules}
 use Rattle.nodes.proofs.take_one.Goals as goal
 
 pub returns-then-o-ge32768 : goal.returns-then-o-ge32768

@@ -1,6 +1,5 @@
 -- `nodes::wants` meets its contract: a pattern before its tail or its end, or a tail.
 use Rattle.nodes.proofs.Marks.{wants-more, wants-tail}
-use borrow.Author.Rules.{rules}
 use Rattle.nodes.proofs.wants.Goals as goal
 
 pub returns-then-more-gt0 : goal.returns-then-more-gt0
