@@ -1,6 +1,6 @@
 -- What each function of the printer promises.
 use Rattle.std.specs.Prelude.{◌≡◌, List, ◌∷◌, ◌++◌, Bool, true, false, ℕ, ◌+◌, ◌-◌, ◌*◌, ◌/◌, ◌%◌, ◌^◌, ◌≤◌, ◌<◌, length, get_or}
-use Rattle.scope.specs.Lists.{Text, bytes}
+use Rattle.scope.specs.Lists.{Text}
 use Rattle.scope.specs.Types.{Ref, Table, type_at, kind}
 use Rattle.scope.specs.Constructors.{ctors, fields_at}
 use Rattle.scope.specs.Simplify.{Row}
