@@ -1,7 +1,7 @@
 -- A frame of a kind, and a whole one: what is reached. From it what a caller learns: where a place was reached `wholly` says ok, at a fault it refuses with 4.
 use mathlib.Core.Path.{◌≡◌, refl, sym, ap, ◌∙◌}
 use mathlib.Core.List.{List, [], ◌∷◌}
-use Prim.Native.Nat.{ℕ, zero, suc, ◌-◌, ◌≤◌, ◌<◌}
+use Prim.Native.Nat.{ℕ, zero, suc, ◌≤◌, ◌<◌}
 use lib.ListN.{length, drop, drop_of_length-le}
 use Rattle.scope.proofs.Tests.{clash}
 use Rattle.scope.specs.Frames as scope
