@@ -7,12 +7,10 @@ use Rattle.fitting.proofs.say.Goals as goal
 
 pub returns-in-Refused : goal.returns-in-Refused
 returns-in-Refused c =
-    let s = c.before.before.before.before.before.before.before.before.before.before.before.before.before.before.before.before in
-    let d = s.args.report.now in
-    (λ table f says. too_long (report table f) c.report-length.result (length d) d c.report-length.new.out (c.report-length.ensures table f says) (omega arith) c.fit-answer.result c.fit-answer.ensures _ _ c.in-Refused.is)
+    let d = c.args.report.now in
+    λ table f says. too_long (report table f) c.report-length.result (length d) d c.report-length.new.out (c.report-length.ensures table f says) (omega arith) c.fit-answer.result c.fit-answer.ensures _ _ c.in-Refused.is
 
 pub returns : goal.returns
 returns c =
-    let s = c.before.before.before.before.before.before.before.before.before.before.before.before.before.before.before.before.before.before.before.before in
-    let d = s.args.report.now in
-    (λ table f says. in_buffer (report table f) c.report-length.result (length d) d c.report-length.new.out (c.report-length.ensures table f says) (omega arith) c.fit-answer.result c.fit-answer.ensures _ c.report.result c.report.new.out c.in_default.is (c.report.ensures table f says))
+    let d = c.args.report.now in
+    λ table f says. in_buffer (report table f) c.report-length.result (length d) d c.report-length.new.out (c.report-length.ensures table f says) (omega arith) c.fit-answer.result c.fit-answer.ensures _ c.report.result c.report.new.out c.in_default.is (c.report.ensures table f says)
