@@ -22,5 +22,4 @@ returns-in-7 c =
 pub returns-in_default : goal.returns-in_default
 returns-in_default c =
     let a = c.args in
-    let m = c.in_default.in_default-own.rest in
-    is-tuple a.bytes.now a.counts.now a.arities.now a.at a.t a.what c.wide8-a.result c.args-in_default.result (omega (arith, c.requires.2, m.0.0.1, m.0.1, m.1)) (c.wide8-a.ensures ∙ c.at8.ensures) c.args-in_default.ensures
+    is-tuple a.bytes.now a.counts.now a.arities.now a.at a.t a.what c.wide8-a.result c.args-in_default.result (omega arith) (c.wide8-a.ensures ∙ c.at8.ensures) c.args-in_default.ensures
