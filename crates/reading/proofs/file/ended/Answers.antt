@@ -1,7 +1,6 @@
 -- `reading::file::ended` meets its contract: by the phase after the last line.
 use mathlib.Core.Path.{sym, ◌∙◌}
 use mathlib.Core.Bool.{true, false}
-use borrow.Author.Rules.{rules}
 use Rattle.reading.proofs.Whole.{end_is}
 use Rattle.reading.proofs.file.ended.Goals as goal
 

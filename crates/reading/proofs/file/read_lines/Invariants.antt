@@ -1,15 +1,9 @@
 -- `reading::file::read_lines` meets its contract. The loop's invariant: what is said so far, and that what is left of the file decides; the measure is what is left of it.
-use mathlib.Core.Path.{◌≡◌, refl, sym, subst, ◌∙◌}
-use Prim.Native.Nat.{ℕ, ◌*◌, ◌-◌, ◌≤◌}
-use native.Mathlib.Omega.{arith}
-use borrow.Author.Tests.{ltb-true, ltb-false}
+use mathlib.Core.Path.{◌≡◌}
+use Prim.Native.Nat.{◌*◌, ◌-◌, ◌≤◌}
 use lib.ListN.{length, take}
-use Rattle.hexadecimal.specs.Digits.{TakenLine}
 use Rattle.reading.specs.Said.{held}
-use Rattle.reading.specs.Files.{says_fault}
-use Rattle.reading.proofs.Lines.{Within, taken, not_taken, within-start, line-bad, next-line, to-after, line-long, line_asks, line-says, line-less, line-stops, line-goes, at_last}
-use Rattle.reading.proofs.Whole.{file-long}
-use borrow.Author.Rules.{rules}
+use Rattle.reading.proofs.Lines.{Within}
 use Rattle.reading.proofs.file.read_lines.Given as goal
 
 abbrev pub invariant-loop-i : goal.invariant-loop-i

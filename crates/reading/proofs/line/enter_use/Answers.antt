@@ -1,12 +1,8 @@
 -- `reading::line::enter_use` meets its contract: a sound subject or 7; a clause's row with its terminator, or 8, or 9.
 use mathlib.Core.Path.{refl, sym, ◌∙◌}
-use Prim.Native.Nat.{ℕ}
-use native.Mathlib.Omega.{arith}
-use lib.ListN.{length-replicate}
 use Rattle.reading.specs.Enters.{unsound, sound, unsuited, over, row, a_subject, a_clause}
 use Rattle.reading.proofs.Entering.{simplified_as}
-use Rattle.reading.proofs.Numbers.{subject-bit, nodes-fit, end_fits, fits, twice-fits}
-use borrow.Author.Rules.{rules}
+use Rattle.reading.proofs.Numbers.{subject-bit}
 use Rattle.reading.proofs.line.enter_use.Goals as goal
 
 pub returns-then-is_sound : goal.returns-then-is_sound
