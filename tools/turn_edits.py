@@ -1,7 +1,7 @@
 #!/usr/bin/env python3
 """Brings the must-fail edits to the spelling of the files that they change, by laying the old file beside the new one.
 
-usage: tools/turn_edits.py COMMIT [--show]      at the top; COMMIT is the last one in the old spelling
+usage: tools/turn_edits.py COMMIT [--show]      at the top, once, after tools/respell.py; COMMIT is the last one in the old spelling
 
 The words of all .antt files of COMMIT are laid beside those of today, and so it is learned which word became which. An edit whose `old:` stood
 once in its file gets for `old:` the text that stands there now, and its `new:` is turned by the same words. A projection ` .name` is written
@@ -18,7 +18,6 @@ import sys
 
 MOVED = {"hexadecimal": "hex"}  # crates whose folder had another name
 TOKEN = re.compile(r'"(?:[^"\\\n]|\\.)*"|«[^»\n]*»|\s+|[(){};,@]|\.\.|\.|[^\s(){}.;,@"«»]+')
-WORD = re.compile(r'[^\s(){};,@."]')
 PATHS = {  # whole paths, which no file of today has
     r"\b(?:mathlib\.Core\.(?:Bool|List)|Prim\.Native\.Nat|lib\.Dec|lib\.ListN)\.": "Rattle.std.specs.Prelude.",
     r"\bRattle·(\w+)·specs\.specs\.": r"Rattle.\1.specs.",
