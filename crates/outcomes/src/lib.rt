@@ -55,6 +55,7 @@ pub fn bit_of(reached: bool) -> u8
 }
 
 // One row more, written up to the place `at`: over the limit of nodes, or not.
+#[tactic(auto, using(crate::proofs::Tests::fits, crate::proofs::Tests::fits_not))]
 pub fn fit(at: usize, rows: usize) -> Spelt
     requires { rows ≤ 4096 }
     ensures { said_spelt result ≡ fitting at rows }

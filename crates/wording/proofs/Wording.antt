@@ -1,5 +1,5 @@
 -- A word with its number after other text is one text, from how texts are joined.
-use mathlib.Core.Path.{◌≡◌, ap, sym, ◌∙◌}
+use mathlib.Core.Path.{ap, sym, ◌∙◌}
 use mathlib.Core.List.{List, [], ◌∷◌, ◌++◌, append_assoc}
 use Prim.Native.Nat.{ℕ}
 use Rattle.scope.specs.Lists.{Text}

@@ -1,5 +1,4 @@
 -- `gatesorrel::drain` meets its contract: its turns are counted down.
-use borrow.Author.Rules.{rules}
 use Prim.Native.Nat.{◌≤◌}
 use Rattle.gatesorrel.proofs.drain.Given as goal
 

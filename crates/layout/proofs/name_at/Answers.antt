@@ -1,7 +1,5 @@
 -- `layout::name_at` meets its contract: past the end, cut by the end, or whole.
-use native.Mathlib.Omega.{arith}
 use Rattle.layout.proofs.Texts.{text-none, text-cut, text-whole}
-use borrow.Author.Rules.{rules}
 use Rattle.layout.proofs.name_at.Goals as goal
 
 pub returns-then-bytes-at-clause-result_value : goal.returns-then-bytes-at-clause-result_value

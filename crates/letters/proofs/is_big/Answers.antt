@@ -2,7 +2,6 @@
 use mathlib.Core.Path.{◌∙◌, sym}
 use Rattle.letters.proofs.Laws.{or_left, or_right}
 use Rattle.scope.specs.Frames.{is_big}
-use borrow.Author.Rules.{rules}
 use Rattle.letters.proofs.is_big.Goals as goal
 
 pub returns-then-is_upper : goal.returns-then-is_upper

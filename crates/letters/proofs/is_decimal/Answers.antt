@@ -1,7 +1,6 @@
 -- `letters::is_decimal` meets its contract: by the first byte, a minus, a 0 or another.
 use mathlib.Core.Path.{sym, ◌∙◌}
 use Rattle.letters.proofs.Laws.{decimal-none, decimal-minus, decimal-zero, decimal-plain}
-use borrow.Author.Rules.{rules}
 use native.Mathlib.Omega.{arith}
 use Rattle.letters.proofs.is_decimal.Goals as goal
 

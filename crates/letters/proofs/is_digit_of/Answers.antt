@@ -3,7 +3,6 @@ use mathlib.Core.Path.{sym, ap, ◌∙◌}
 use mathlib.Core.Bool.{Bool}
 use Rattle.letters.specs.Classes.{digit_of}
 use Rattle.scope.specs.Lines.{is_hex}
-use borrow.Author.Rules.{rules}
 use Rattle.letters.proofs.is_digit_of.Goals as goal
 
 pub returns-then-hex : goal.returns-then-hex

@@ -2,7 +2,6 @@
 use mathlib.Core.Path.{◌∙◌, sym, refl}
 use Rattle.letters.proofs.Laws.{or_left, or_right}
 use Rattle.scope.specs.Frames.{is_small}
-use borrow.Author.Rules.{rules}
 use Rattle.letters.proofs.is_small.Goals as goal
 
 pub returns-then-is_lower : goal.returns-then-is_lower

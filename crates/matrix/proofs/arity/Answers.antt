@@ -3,7 +3,6 @@ use Rattle.matrix.proofs.Arities.{arity-none, arity-node}
 use lib.ListN.{get_or}
 use Prim.Native.Nat.{ℕ, ◌-◌}
 use mathlib.Core.Path.{ap, ◌∙◌}
-use borrow.Author.Rules.{rules}
 use Rattle.matrix.proofs.arity.Goals as goal
 
 pub returns-then-node-eq0 : goal.returns-then-node-eq0

@@ -1,10 +1,8 @@
 -- `matrix::copy` meets its contract: the front up to i is copied.
-use Rattle.matrix.proofs.Fronts.{front-more, front_length}
-use lib.ListN.{length, get_or, take, drop, set}
-use native.Mathlib.Omega.{arith}
-use Prim.Native.Nat.{ℕ, ◌-◌, ◌≤◌}
-use mathlib.Core.List.{List, ◌++◌}
-use mathlib.Core.Path.{◌≡◌, refl, ap, subst, ◌∙◌}
+use lib.ListN.{take, drop}
+use Prim.Native.Nat.{◌-◌, ◌≤◌}
+use mathlib.Core.List.{◌++◌}
+use mathlib.Core.Path.{◌≡◌}
 use Rattle.matrix.proofs.copy.Given as goal
 
 abbrev pub invariant-loop-i : goal.invariant-loop-i

@@ -1,10 +1,9 @@
 -- `matrix::same_literal` meets its contract: the first i bytes agree, so the rest decides.
 use Rattle.matrix.proofs.Literals.{agree_on, agree_fail, agree-end, lit-whole}
-use Rattle.matrix.specs.Numbers.{agree, same_lit}
 use native.Mathlib.Omega.{arith}
 use native.Mathlib.Nat.{add-zero, sub-zero}
-use Prim.Native.Nat.{ℕ, ◌+◌, ◌-◌, ◌≤◌}
-use mathlib.Core.Path.{◌≡◌, sym, ap, ◌∙◌}
+use Prim.Native.Nat.{ℕ, ◌+◌}
+use mathlib.Core.Path.{sym, ap, ◌∙◌}
 use Rattle.matrix.proofs.same_literal.Goals as goal
 
 pub loop-i-init : goal.loop-i-init

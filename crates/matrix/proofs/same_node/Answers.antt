@@ -3,7 +3,6 @@ use Rattle.matrix.proofs.Literals.{both-literals, node-same, node-other, node-li
 use Rattle.matrix.specs.Numbers.{same_lit}
 use Prim.Native.Nat.{ℕ}
 use mathlib.Core.Path.{sym, ap₂, ◌∙◌}
-use borrow.Author.Rules.{rules}
 use Rattle.matrix.proofs.same_node.Goals as goal
 
 pub overflow_sub-h : goal.overflow_sub-h

@@ -1,13 +1,10 @@
 -- `matrix::specialize` meets its contract: the steps of the first i rows are written.
-use Rattle.matrix.proofs.Steps.{written_none, written-length, written_read, turn_at, turn-gone}
-use Rattle.matrix.specs.Places.{steps, place_of, Written}
-use lib.Seq.{length-take-le, take_all}
+use Rattle.matrix.proofs.Steps.{written_none, written_read, turn_at, turn-gone}
+use Rattle.matrix.specs.Places.{steps, place_of}
+use lib.Seq.{length-take-le}
 use lib.ListN.{length, get_or, take}
-use borrow.Author.Rules.{rules}
 use native.Mathlib.Omega.{arith}
-use Prim.Native.Nat.{ℕ, ◌+◌, ◌-◌, ◌≤◌, ◌<◌}
-use mathlib.Core.List.{List}
-use mathlib.Core.Logic.{⊎_elim}
+use Prim.Native.Nat.{ℕ, ◌+◌, ◌≤◌, ◌<◌}
 use mathlib.Core.Path.{◌≡◌, sym, ap, subst, ◌∙◌}
 use Rattle.matrix.proofs.specialize.Goals as goal
 use Rattle.matrix.proofs.specialize.Goals.{in-At, in_default}

@@ -1,9 +1,9 @@
 -- `names::contains` meets its contract: s stands somewhere from i on just where it stands anywhere.
-use Prim.Native.Nat.{◌≤◌, ◌<◌, ◌-◌}
-use mathlib.Core.Path.{◌≡◌, refl, sym, ◌∙◌}
+use Prim.Native.Nat.{◌<◌}
+use mathlib.Core.Path.{◌≡◌, sym, ◌∙◌}
 use mathlib.Core.Bool.{false}
 use lib.ListN.{length, drop, length-drop}
-use Rattle.scope.specs.Text.{starts_with, contains}
+use Rattle.scope.specs.Text.{starts_with}
 use Rattle.names.proofs.Laws.{starts-at, starts-some, contains-stops, contains-goes, contains-short}
 use native.Mathlib.Omega.{arith}
 use Rattle.names.proofs.contains.Goals as goal

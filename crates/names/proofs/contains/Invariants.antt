@@ -1,11 +1,8 @@
 -- `names::contains` meets its contract: s stands somewhere from i on just where it stands anywhere.
-use Prim.Native.Nat.{◌≤◌, ◌<◌, ◌-◌}
-use mathlib.Core.Path.{◌≡◌, refl, sym, ◌∙◌}
-use mathlib.Core.Bool.{false}
-use lib.ListN.{length, drop, length-drop}
-use Rattle.scope.specs.Text.{starts_with, contains}
-use Rattle.names.proofs.Laws.{starts-at, starts-some, contains-stops, contains-goes, contains-short}
-use native.Mathlib.Omega.{arith}
+use Prim.Native.Nat.{◌≤◌, ◌-◌}
+use mathlib.Core.Path.{◌≡◌}
+use lib.ListN.{length, drop}
+use Rattle.scope.specs.Text.{contains}
 use Rattle.names.proofs.contains.Given as goal
 
 abbrev pub invariant-loop-i : goal.invariant-loop-i

@@ -1,10 +1,6 @@
 -- `names::same` meets its contract: the texts are as much the same from i on as whole.
-use Prim.Native.Nat.{◌≤◌, ◌-◌}
-use mathlib.Core.Path.{◌≡◌, refl, sym, ◌∙◌}
-use lib.ListN.{length, drop}
-use Rattle.scope.specs.Lists.{same}
+use mathlib.Core.Path.{sym, ◌∙◌}
 use Rattle.names.proofs.Laws.{same_lengths, same-stops, same-goes, same_ends}
-use borrow.Author.Rules.{rules}
 use native.Mathlib.Omega.{arith}
 use Rattle.names.proofs.same.Goals as goal
 

@@ -1,11 +1,8 @@
 -- `names::same` meets its contract: the texts are as much the same from i on as whole.
 use Prim.Native.Nat.{◌≤◌, ◌-◌}
-use mathlib.Core.Path.{◌≡◌, refl, sym, ◌∙◌}
+use mathlib.Core.Path.{◌≡◌}
 use lib.ListN.{length, drop}
 use Rattle.scope.specs.Lists.{same}
-use Rattle.names.proofs.Laws.{same_lengths, same-stops, same-goes, same_ends}
-use borrow.Author.Rules.{rules}
-use native.Mathlib.Omega.{arith}
 use Rattle.names.proofs.same.Given as goal
 
 abbrev pub invariant-loop-i : goal.invariant-loop-i

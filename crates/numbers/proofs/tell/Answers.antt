@@ -1,5 +1,4 @@
 -- `numbers::tell` meets its contract: the numbers of each case of the answer.
-use borrow.Author.Rules.{rules}
 use Rattle.numbers.proofs.Telling.{report-told, refusal-told}
 use Rattle.numbers.proofs.tell.Goals as goal
 

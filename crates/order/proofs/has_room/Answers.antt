@@ -1,4 +1,5 @@
 -- `order::has_room` meets its contract: the kind of frame decides which limit is asked.
+use native.Mathlib.Omega.{arith}
 use Rattle.order.proofs.Standing.{type-room, clause-room, ctor-room, other-room}
 use Rattle.order.proofs.has_room.Goals as goal
 
@@ -20,5 +21,4 @@ returns-in-4 c =
 pub returns-in_default : goal.returns-in_default
 returns-in_default c =
     let a = c.args in
-    let m = c.in_default.in_default-own.rest in
-    other-room a.s a.last a.kind m.0.0.1 m.0.1 m.1
+    other-room a.s a.last a.kind (omega arith) (omega arith) (omega arith)

@@ -1,4 +1,5 @@
 -- `order::stands` meets its contract: the kind of frame decides which phases it may stand in.
+use native.Mathlib.Omega.{arith}
 use mathlib.Core.Logic.{inl, inr}
 use Rattle.order.proofs.Standing.{early-stands, constructor-stands, late-stands, none-stands}
 use Rattle.order.proofs.stands.Goals as goal
@@ -31,5 +32,4 @@ returns-in-5 c =
 pub returns-in_default : goal.returns-in_default
 returns-in_default c =
     let a = c.args in
-    let m = c.in_default.in_default-own.rest in
-    none-stands a.phase a.kind m.0.0.0.0.1 m.0.0.0.1 m.0.0.1 m.0.1 m.1
+    none-stands a.phase a.kind (omega arith) (omega arith) (omega arith) (omega arith) (omega arith)

@@ -1,10 +1,8 @@
 -- `paths::choose` and `paths::put_rows` meet their contracts. The measure: 40 for each step that is still to be chosen.
-use Rattle.paths.proofs.PathChoose.{fewer, rows_fit, rows_on, rows-chosen, choose-none, choose-skip, choose_spelling, choose-over, choose-fit, choose-then, kept-cell, restored}
-use lib.ListN.{get_or, set}
-use borrow.Author.Rules.{rules}
+use Rattle.paths.proofs.PathChoose.{rows_fit, rows_on, rows-chosen, choose-none, choose-skip, choose_spelling, choose-over, choose-fit, choose-then, kept-cell}
 use native.Mathlib.Omega.{arith}
-use mathlib.Core.Path.{refl, ◌∙◌}
-use Prim.Native.Nat.{ℕ, ◌+◌, ◌*◌, ◌-◌, ◌<◌}
+use mathlib.Core.Path.{◌∙◌}
+use Prim.Native.Nat.{◌<◌}
 use Rattle.paths.proofs.+choose_put_rows.Goals as goal
 
 pub choose-returns-then-more-eq0-clause-spread : goal.choose-returns-then-more-eq0-clause-spread

@@ -1,13 +1,9 @@
 -- `paths::put_row` meets its contract: what is still to come, put after what stands, is the whole.
-use Rattle.paths.proofs.PathLaws.{spelt-most}
-use Rattle.paths.proofs.PathPuts.{row-start, row_next, row-end}
 use Rattle.paths.specs.Path.{spelt}
 use lib.ListN.{length}
 use lib.Seq.{sets}
-use Rattle.matrix.proofs.Arities.{arity-byte}
-use native.Mathlib.Omega.{arith}
 use Prim.Native.Nat.{◌+◌, ◌-◌, ◌≤◌}
-use mathlib.Core.Path.{◌≡◌, ◌∙◌}
+use mathlib.Core.Path.{◌≡◌}
 use Rattle.paths.proofs.put_row.Given as goal
 
 abbrev pub invariant-loop-i : goal.invariant-loop-i

@@ -1,12 +1,6 @@
 -- `paths::put_step` meets its contract: a node alone, or with its wildcards.
-use Rattle.paths.proofs.PathPuts.{put_alone, put-wilds}
 use Rattle.matrix.proofs.Arities.{arity-byte}
 use native.Mathlib.Omega.{arith}
-use lib.ListN.{replicate}
-use Prim.Native.Nat.{ℕ}
-use mathlib.Core.Path.{subst₂}
-use Rattle.paths.specs.Spread.{Put}
-use borrow.Author.Rules.{rules}
 use Rattle.paths.proofs.put_step.Goals as goal
 
 pub put_wilds-requires : goal.put_wilds-requires

@@ -1,11 +1,11 @@
 -- `paths::put_wilds` meets its contract: what is still to come, put after what stands, is the whole.
-use Rattle.paths.proofs.PathPuts.{wilds-start, wilds-next, wilds-end}
-use lib.ListN.{replicate, length-replicate}
+use Rattle.paths.proofs.PathPuts.{wilds-next}
+use lib.ListN.{replicate}
 use lib.Seq.{sets}
 use native.Mathlib.Omega.{arith}
-use Prim.Native.Nat.{ℕ, ◌+◌, ◌-◌, ◌≤◌}
+use Prim.Native.Nat.{ℕ, ◌+◌, ◌-◌}
 use mathlib.Core.List.{List}
-use mathlib.Core.Path.{◌≡◌, sym, ap, ◌∙◌}
+use mathlib.Core.Path.{ap, ◌∙◌}
 use Rattle.paths.proofs.put_wilds.Goals as goal
 
 pub loop-i-preserved : goal.loop-i-preserved

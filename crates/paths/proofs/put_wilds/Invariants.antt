@@ -1,11 +1,8 @@
 -- `paths::put_wilds` meets its contract: what is still to come, put after what stands, is the whole.
-use Rattle.paths.proofs.PathPuts.{wilds-start, wilds-next, wilds-end}
-use lib.ListN.{replicate, length-replicate}
+use lib.ListN.{replicate}
 use lib.Seq.{sets}
-use native.Mathlib.Omega.{arith}
-use Prim.Native.Nat.{ℕ, ◌+◌, ◌-◌, ◌≤◌}
-use mathlib.Core.List.{List}
-use mathlib.Core.Path.{◌≡◌, sym, ap, ◌∙◌}
+use Prim.Native.Nat.{◌+◌, ◌-◌, ◌≤◌}
+use mathlib.Core.Path.{◌≡◌}
 use Rattle.paths.proofs.put_wilds.Given as goal
 
 abbrev pub invariant-loop-i : goal.invariant-loop-i

@@ -1,5 +1,4 @@
 -- `replay::main` meets its contract: its turns are counted down.
-use borrow.Author.Rules.{rules}
 use Prim.Native.Nat.{◌≤◌}
 use Rattle.replay.proofs.main.Given as goal
 

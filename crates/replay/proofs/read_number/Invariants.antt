@@ -1,5 +1,4 @@
 -- `replay::read_number` meets its contract: the number stays below a million, and seven bytes are read at most.
-use borrow.Author.Rules.{rules}
 use Prim.Native.Nat.{◌-◌, ◌<◌}
 use Rattle.replay.proofs.read_number.Given as goal
 

@@ -1,5 +1,4 @@
 -- `replay::skip` meets its contract: what is left falls.
-use borrow.Author.Rules.{rules}
 use Prim.Native.Nat.{◌≤◌}
 use Rattle.replay.proofs.skip.Given as goal
 

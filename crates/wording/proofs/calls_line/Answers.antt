@@ -1,7 +1,5 @@
 -- `calls_line` meets its contract: a word and a number, twice.
-use mathlib.Core.Path.{refl, ◌∙◌}
 use mathlib.Core.List.{◌++◌}
-use native.Mathlib.Omega.{arith}
 use Rattle.scope.specs.Lists.{bytes}
 use Rattle.scope.specs.Text.{decimal}
 use Rattle.wording.proofs.Wording.{then-ended}

@@ -1,6 +1,4 @@
 -- `ended` meets its contract: the word with its number, then the line feed.
-use mathlib.Core.Path.{◌∙◌}
-use native.Mathlib.Omega.{arith}
 use Rattle.writing.proofs.Writing.{wrote_more}
 use Rattle.wording.proofs.ended.Goals as goal
 

@@ -1,6 +1,4 @@
 -- `numbered` meets its contract: the word, then the number.
-use mathlib.Core.Path.{◌∙◌}
-use native.Mathlib.Omega.{arith}
 use Rattle.writing.proofs.Writing.{wrote_more}
 use Rattle.wording.proofs.numbered.Goals as goal
 

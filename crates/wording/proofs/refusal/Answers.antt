@@ -1,8 +1,7 @@
 -- `refusal` meets its contract: a word and a number, twice.
-use mathlib.Core.Path.{refl, ap, ◌∙◌}
+use mathlib.Core.Path.{ap}
 use mathlib.Core.List.{◌++◌}
 use Prim.Native.Nat.{ℕ}
-use native.Mathlib.Omega.{arith}
 use Rattle.scope.specs.Lists.{bytes}
 use Rattle.scope.specs.Text.{decimal}
 use Rattle.writing.proofs.Writing.{wrote_as}

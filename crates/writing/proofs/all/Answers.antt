@@ -1,10 +1,9 @@
 -- `all` meets its contract: the bytes before i are written.
-use mathlib.Core.Path.{◌≡◌, refl, ap, ◌∙◌}
+use mathlib.Core.Path.{ap, ◌∙◌}
 use mathlib.Core.List.{List}
-use Prim.Native.Nat.{ℕ, ◌+◌, ◌-◌, ◌≤◌}
+use Prim.Native.Nat.{ℕ, ◌+◌}
 use native.Mathlib.Omega.{arith}
-use lib.ListN.{length, get_or, take, set}
-use lib.Seq.{sets, length-sets, take_all}
+use lib.ListN.{get_or, set}
 use Rattle.cells.proofs.Laws.{sets-next}
 use Rattle.writing.proofs.all.Goals as goal
 

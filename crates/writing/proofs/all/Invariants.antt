@@ -1,11 +1,8 @@
 -- `all` meets its contract: the bytes before i are written.
-use mathlib.Core.Path.{◌≡◌, refl, ap, ◌∙◌}
-use mathlib.Core.List.{List}
-use Prim.Native.Nat.{ℕ, ◌+◌, ◌-◌, ◌≤◌}
-use native.Mathlib.Omega.{arith}
-use lib.ListN.{length, get_or, take, set}
-use lib.Seq.{sets, length-sets, take_all}
-use Rattle.cells.proofs.Laws.{sets-next}
+use mathlib.Core.Path.{◌≡◌}
+use Prim.Native.Nat.{◌-◌, ◌≤◌}
+use lib.ListN.{length, take}
+use lib.Seq.{sets}
 use Rattle.writing.proofs.all.Given as goal
 
 abbrev pub invariant-loop-i : goal.invariant-loop-i
