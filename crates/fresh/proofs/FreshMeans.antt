@@ -1,4 +1,4 @@
--- `isFreshIn` of slices that hold a type table is document 01's `isFresh` of the table and the frame's constructor.
+-- `is_fresh_in` of slices that hold a type table is document 01's `is_fresh` of the table and the frame's constructor.
 use mathlib.Core.Path.{◌≡◌, refl, sym, ap, ap₂, subst, ◌∙◌}
 use mathlib.Core.Bool.{Bool, true, false, not, ◌&&◌, ◌||◌}
 use mathlib.Core.List.{List, [], map}

@@ -117,7 +117,7 @@ module _ (table : Table) where
       go none i h = clash (cc)
       go (some v) i h = type-is v k i ∙ pick v (all_seen m 0 (alts table v)) h
 
-  -- constructor c of the list ks, from number c on, is the one that `ctorAt` gives
+  -- constructor c of the list ks, from number c on, is the one that `ctor_at` gives
   try_same : (f g : ℕ → ℕ → Walk Bool) (ks : List (List Ref)) (c : ℕ) → ((i : ℕ) → f (c + i) (length (get_or ks i [])) ≡ g (c + i) (length (get_or ks i []))) → try_each f c ks ≡ try_each g c ks
   try_same f g [] c h = refl
   try_same f g (fields ∷ ks) c h = rw (subst (λ (x : ℕ). f x (length fields) ≡ g x (length fields)) (add-zero c) (h 0), try_same f g ks (suc c) (λ i. subst (λ (x : ℕ). f x (length (get_or ks i [])) ≡ g x (length (get_or ks i []))) (add-suc c i ∙ sym (suc-add c i)) (h (suc i))))

@@ -1,8 +1,8 @@
 -- Document 01's table "What is refused, and when": one row a constructor of `Refuses`, the document's row above it; 4, which has two places in the order, and
 -- 5, which has a line of its own where no end is there, have two each. No test of `scope` decides a row. What a premise calls says what was read: `bytes_of`
--- the bytes of a line, two digits each; `type_at`, `fields_at`, `refs`, `lastDeclared`, `ctorCount` and `addCtor` the types as far as they are declared. 7 asks
+-- the bytes of a line, two digits each; `type_at`, `fields_at`, `refs`, `last_declared`, `ctor_count` and `add_ctor` the types as far as they are declared. 7 asks
 -- for values (`Valued`), of which a byte string is one whose elements are below 256. For 9 to 11 the document itself speaks of the simplified clauses
--- (`simplify`, `nodesIn`), of the walks as the source would run them (`findings`) and of the report (`report`).
+-- (`simplify`, `nodes_in`), of the walks as the source would run them (`findings`) and of the report (`report`).
 use Rattle.std.specs.Prelude.{List, [], ◌∷◌, ◌++◌, ◌≡◌, ℕ, suc, ◌+◌, ◌*◌, ◌≤◌, ◌<◌, length, get_or}
 use Rattle.std.proofs.Math.Option.{some}
 use Rattle.scope.specs.Lines.{Line, ended, cut, bytes_of}

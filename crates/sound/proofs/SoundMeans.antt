@@ -1,4 +1,4 @@
--- `isSoundIn` of slices that hold a type table is document 01's `isSound` of the table.
+-- `is_sound_in` of slices that hold a type table is document 01's `is_sound` of the table.
 use mathlib.Core.Path.{◌≡◌, refl, ap, ◌∙◌}
 use mathlib.Core.Bool.{Bool, true, false, ◌&&◌, ◌||◌}
 use mathlib.Core.List.{List, [], ◌∷◌, ◌++◌, map, append-nil}

@@ -1,4 +1,4 @@
--- Nothing is lost: from what the reader of a frame finds (`frame_found`, `frame-finds`), what `encode` gives, and lines of hexadecimal.
+-- Nothing is lost: from what the reader of a frame finds (`frame_found`, `frame_finds`), what `encode` gives, and lines of hexadecimal.
 use mathlib.Core.Path.{◌≡◌, refl, ap, ap₂, sym, subst, ◌∙◌}
 use mathlib.Core.List.{List, [], ◌∷◌, map}
 use mathlib.Core.Bool.{true}
