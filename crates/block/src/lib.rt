@@ -6,6 +6,7 @@ ghost use Rattle.block.specs.Check.{Checked};
 use crate::driver::answer;
 use cells::clear;
 use scope::Answer;
+use scope::refusal::Refusal;
 
 mod driver;
 pub mod library;
@@ -17,7 +18,7 @@ pub fn check(file: &[u8], scratch: &mut [u16], report: &mut [u8]) -> Answer
 {
     if scratch.len() < 16384 {
         clear(scratch);
-        return Answer::Refused { number: 1, line: 0 };
+        return Answer::refused(Refusal::Scratch, 0);
     }
     answer(file, scratch, report)
 }

@@ -1,66 +1,74 @@
 // Total reads and writes on lent slices: what every other crate reads and writes through.
 #![tactic(auto)]
 
-ghost use Rattle.std.specs.Prelude.{◌≡◌, ◌+◌, ◌<◌, ◌^◌, length, get_or, set, replicate};
+ghost use Rattle.std.specs.Prelude.{◌≡◌, ◌+◌, ◌%◌, ◌<◌, ◌^◌, length, get_or, set, replicate};
+ghost use Rattle.std.proofs.lemmas.List.Edits.{sets};
 
-pub fn wide8(x: u8) -> usize
-    ensures { result ≡ x }
-{
-    x as usize
+// A number that may stand in a cell, and its zero.
+pub trait Cell: Copy {
+    ghost zero: { Self };
+
+    fn zero() -> Self
+        ensures { result ≡ zero };
 }
 
-pub fn wide16(x: u16) -> usize
-    ensures { result ≡ x }
-{
-    x as usize
+impl Cell for u8 {
+    ghost zero = { 0 };
+
+    fn zero() -> u8 {
+        0
+    }
 }
 
-// The byte at i, or 0 past the end.
-pub fn at8(s: &[u8], i: usize) -> u8
-    ensures { result ≡ get_or s.now i 0 }
-{
-    if i < s.len() { s[i] } else { 0 }
+impl Cell for u16 {
+    ghost zero = { 0 };
+
+    fn zero() -> u16 {
+        0
+    }
 }
 
-// The number at i, or 0 past the end.
-pub fn at16(s: &[u16], i: usize) -> u16
-    ensures { result ≡ get_or s.now i 0 }
+// The cell at i, or zero past the end.
+pub fn get<T: Cell>(s: &[T], i: usize) -> T
+    ensures { result ≡ get_or s.now i T.zero }
 {
-    if i < s.len() { s[i] } else { 0 }
+    if i < s.len() { s[i] } else { T::zero() }
 }
 
-// The byte x at i, or nothing past the end; the place after it.
-pub fn put8(s: &mut [u8], i: usize, x: u8) -> usize
+// x in the cell at i, or nothing past the end; the place after it.
+pub fn put<T: Copy>(s: &mut [T], i: usize, x: T) -> usize
     requires { i + 1 < 2 ^ 64 }
     ensures value { result ≡ i + 1 }
     ensures s_after { s.new ≡ set s.old i x }
 {
-    if s.len() <= i {
-        return i + 1;
+    if i < s.len() {
+        s[i] = x;
     }
-    s[i] = x;
     i + 1
 }
 
-// The number x at i, or nothing past the end; the place after it.
-pub fn put16(s: &mut [u16], i: usize, x: u16) -> usize
-    requires { i + 1 < 2 ^ 64 }
-    ensures value { result ≡ i + 1 }
-    ensures s_after { s.new ≡ set s.old i x }
+// A number as 16 bits hold it.
+pub fn low(n: usize) -> u16
+    ensures { result ≡ n % 65536 }
 {
-    if s.len() <= i {
-        return i + 1;
+    (n % 65536) as u16
+}
+
+// x in n cells from a place on, cut at the end; the place after them.
+pub fn put_many(s: &mut [u16], from: usize, x: u16, n: usize) -> usize
+    requires { from + n < 2 ^ 64 }
+    ensures value { result ≡ from + n }
+    ensures s_after { s.new ≡ sets s.old from (replicate n x) }
+{
+    for i in 0..n {
+        put(s, from + i, x);
     }
-    s[i] = x;
-    i + 1
+    from + n
 }
 
 // Zero everywhere.
 pub fn clear(s: &mut [u16])
     ensures { s.new ≡ replicate (length s.old) 0 }
 {
-    let mut i = 0;
-    while i < s.len() {
-        i = put16(s, i, 0);
-    }
+    s.fill(0);
 }

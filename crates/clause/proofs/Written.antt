@@ -14,12 +14,12 @@ use Rattle.scope.specs.Lists.{Text, bit, among}
 use Rattle.scope.specs.Patterns.{Raw, variable, assign, integer_of, byte_string_of, list_of, constructor, inner}
 use Rattle.scope.specs.Frames as scope
 use Rattle.scope.specs.Frames.{fault, found, Reader, and_then, ◌>>=◌, give, byte, within, flag, times, choosing, small_name, is_decimal, text_from, pattern_kinds, pattern, patterns_in, patterns}
-use Rattle.fields.specs.declared.Read.{Read}
-use Rattle.fields.specs.declared.Read.TheVariants.{At, Fault}
+use Rattle.std.specs.Prelude.{Result, Ok, Err}
+use Rattle.fields.specs.declared.Fault.{Fault}
 use Rattle.clause.specs.declared.Pattern.{Pattern}
-use Rattle.clause.specs.declared.Pattern as code
+use Rattle.fields.specs.Places as places
 use Rattle.fields.specs.Places.{placed, read_at}
-use Rattle.clause.specs.Written.{flagged, nothing, said_pattern, said_pattern_of, placed_pattern, pattern_at, leaving, leaves}
+use Rattle.clause.specs.Written.{flagged, nothing, said_pattern, said_pattern_of, ends_at, at_fault, placed_pattern, pattern_at, leaving, leaves}
 use Rattle.fields.proofs.Readers.{Tail, Left, Keeps, give-keeps, fault-keeps, byte-keeps, passing-keeps, bind_keeps, judging_keeps, times-keeps, Every, choosing-keeps, fault-stays, give-stays, goes_on, found_at, place-back, tail-tail, tail-place, tail-length, drop-tail, Skipped, chosen, chosen_none}
 use Rattle.fields.proofs.Readings.{name-keeps, flag-bit, flag-keeps}
 
@@ -29,40 +29,36 @@ unfolding placed_pattern said_pattern_of
 said-placed n (fault rest) = refl
 said-placed n (found p rest) = refl
 
-same-said : (r s : Pattern) → said_pattern r ≡ said_pattern s → r ≡ s
-same-said (code.TheVariants.At p k) (code.TheVariants.At q j) e = let i = ap (λ x. x.0) e in let l : k ≡ j = cc in ap₂ code.TheVariants.At (ap (λ x. x.1) e) l
-same-said (code.TheVariants.At p k) (code.TheVariants.Fault q) e = let i = ap (λ x. x.0) e in clash (cc)
-same-said (code.TheVariants.Fault p) (code.TheVariants.At q j) e = let i = ap (λ x. x.0) e in clash (cc)
-same-said (code.TheVariants.Fault p) (code.TheVariants.Fault q) e = ap (λ x. code.TheVariants.Fault x.1) e
+same-said : (r s : Result Pattern Fault) → said_pattern r ≡ said_pattern s → r ≡ s
+same-said (Ok p) (Ok q) e =
+    let i = ap (λ x. x.0) e in
+    let l : p.inner ≡ q.inner = cc in
+    ap₂ ends_at (ap (λ x. x.1) e) l
+same-said (Ok p) (Err q) e = let i = ap (λ x. x.0) e in clash (cc)
+same-said (Err p) (Ok q) e = let i = ap (λ x. x.0) e in clash (cc)
+same-said (Err p) (Err q) e = ap (λ x. at_fault x.1) e
 
-pub pattern-tells : (n : ℕ) (x : scope.Read Raw) (r : Pattern) → r ≡ placed_pattern n x → said_pattern r ≡ said_pattern_of n x
+pub pattern-tells : (n : ℕ) (x : scope.Read Raw) (r : Result Pattern Fault) → r ≡ placed_pattern n x → said_pattern r ≡ said_pattern_of n x
 pattern-tells n x r e = ap said_pattern e ∙ said-placed n x
 
-pub pattern-told : (n : ℕ) (x : scope.Read Raw) (r : Pattern) → said_pattern r ≡ said_pattern_of n x → r ≡ placed_pattern n x
+pub pattern-told : (n : ℕ) (x : scope.Read Raw) (r : Result Pattern Fault) → said_pattern r ≡ said_pattern_of n x → r ≡ placed_pattern n x
 pattern-told n x r e = same-said r (placed_pattern n x) (e ∙ sym (said-placed n x))
 
 -- what was read leaves as many as what is made of it
 pub leaving-give : {A : Type 0} (n : ℕ) (x : scope.Read A) (f : A → Raw) (k : ℕ) → ((a : A) → inner (f a) ≡ k) → leaving k (placed n x) ≡ placed_pattern n (and_then x (λ a. give (f a)))
 unfolding placed placed_pattern
 leaving-give n (fault rest) f k h = refl
-leaving-give n (found a rest) f k h = ap (code.TheVariants.At (n - length rest)) (sym (h a))
-
-leaves-most : (k : ℕ) (c : Read) → leaves (leaving k c) ≤ k
-leaves-most k (At q) = omega arith
-leaves-most k (Fault q) = omega arith
-
-pub few-left : (k : ℕ) (r : Pattern) (c : Read) → k ≤ 256 → r ≡ leaving k c → leaves r ≤ 256
-few-left k r c h e = omega (arith, ap leaves e, leaves-most k c)
+leaving-give n (found a rest) f k h = ap (ends_at (n - length rest)) (sym (h a))
 
 -- a pattern that was found, by its place
-pub found-pattern : (bytes : List ℕ) (q : ℕ) (p : Raw) → q ≤ length bytes → code.TheVariants.At q (inner p) ≡ placed_pattern (length bytes) (found p (drop q bytes))
+pub found-pattern : (bytes : List ℕ) (q : ℕ) (p : Raw) → q ≤ length bytes → ends_at q (inner p) ≡ placed_pattern (length bytes) (found p (drop q bytes))
 unfolding placed_pattern
-found-pattern bytes q p h = ap (λ (k : ℕ). code.TheVariants.At k (inner p)) (sym (place-back bytes q h))
+found-pattern bytes q p h = ap (λ (k : ℕ). ends_at k (inner p)) (sym (place-back bytes q h))
 
 -- n bytes, then a flag
-module _ (n : ℕ) (bytes : List ℕ) (at : ℕ) (c : Read) where
-  pub flagged-short : (q : ℕ) → c ≡ read_at bytes at (times n byte) → c ≡ Fault q → c ≡ read_at bytes at (flagged n)
-  flagged-short q e f = fault-stays (length bytes) (times n byte (drop at bytes)) (λ bs. within 0 1) c q e f
+module _ (n : ℕ) (bytes : List ℕ) (at : ℕ) (c : Result ℕ Fault) where
+  pub flagged-short : (q : Fault) → c ≡ read_at bytes at (times n byte) → c ≡ Err q → c ≡ read_at bytes at (flagged n)
+  flagged-short q e f = fault-stays (length bytes) (times n byte (drop at bytes)) (λ bs. within 0 1) c q.at e f
 
   pub flagged-on : (q : ℕ) → Skipped n bytes at q → c ≡ read_at bytes q (within 0 1) → c ≡ read_at bytes at (flagged n)
   flagged-on q s e = e ∙ sym (goes_on (times n byte) (λ bs. within 0 1) bytes at q (take n (drop at bytes)) s.reads)
@@ -75,7 +71,7 @@ list-is n (k ∷ []) = refl
 list-is n (k ∷ b ∷ bs) = go (among 0 1 b) refl
   where
     go : (x : Bool) → among 0 1 b ≡ x → leaving (k + b) (placed n (cond x (found b bs) (fault (b ∷ bs)))) ≡ placed_pattern n (and_then (and_then (cond x (found b bs) (fault (b ∷ bs))) (λ y. give (eqb y 1))) (λ tail. give (list_of k tail)))
-    go true h = ap (λ (j : ℕ). code.TheVariants.At (n - length bs) (k + j)) (sym (flag-bit b h))
+    go true h = ap (λ (j : ℕ). ends_at (n - length bs) (k + j)) (sym (flag-bit b h))
     go false h = refl
 
 list-most : (n : ℕ) (bs : List ℕ) → get_or bs 0 0 ≤ 255 → leaves (placed_pattern n (get_or pattern_kinds 5 nothing bs)) ≤ 256
@@ -115,7 +111,7 @@ first-is : (bytes : List ℕ) (at : ℕ) → get_or (drop at bytes) 0 0 ≡ get_
 first-is bytes at = get_or-drop at bytes 0 0 ∙ ap (λ (i : ℕ). get_or bytes i 0) (add-zero at)
 
 -- Each from its place in the bytes on
-module _ (bytes : List ℕ) (at k : ℕ) (c : Read) (r : Pattern) (said : r ≡ leaving k c) where
+module _ (bytes : List ℕ) (at k : ℕ) (c : Result ℕ Fault) (r : Result Pattern Fault) (said : r ≡ leaving k c) where
   pub list_read : (j : ℕ) → k ≡ get_or bytes at 0 + j → j ≡ get_or bytes (at + 1) 0 → c ≡ read_at bytes at (flagged 1) → r ≡ pattern_at bytes at (get_or pattern_kinds 5 nothing)
   list_read j a b e =
       let m : k ≡ get_or (drop at bytes) 0 0 + get_or (drop at bytes) 1 0 = omega (arith, first-is bytes at, get_or-drop at bytes 1 0) in
@@ -127,24 +123,24 @@ module _ (bytes : List ℕ) (at k : ℕ) (c : Read) (r : Pattern) (said : r ≡ 
   pub tuple-read : k ≡ get_or bytes at 0 → c ≡ read_at bytes at byte → r ≡ pattern_at bytes at (get_or pattern_kinds 8 nothing)
   tuple-read m e = said ∙ ap (λ (i : ℕ). leaving i c) (m ∙ sym (first-is bytes at)) ∙ ap (leaving (get_or (drop at bytes) 0 0)) e ∙ tuple_is (length bytes) (drop at bytes)
 
-pub list-few : (bytes : List ℕ) (at : ℕ) (r : Pattern) → get_or bytes at 0 ≤ 255 → r ≡ pattern_at bytes at (get_or pattern_kinds 5 nothing) → leaves r ≤ 256
+pub list-few : (bytes : List ℕ) (at : ℕ) (r : Result Pattern Fault) → get_or bytes at 0 ≤ 255 → r ≡ pattern_at bytes at (get_or pattern_kinds 5 nothing) → leaves r ≤ 256
 list-few bytes at r h e =
     omega (arith, ap leaves e, list-most (length bytes) (drop at bytes) (omega (arith, first-is bytes at)))
 
 -- A pattern, by its first byte
-pub pattern-end : (bytes : List ℕ) (at : ℕ) → at ≤ length bytes → length bytes ≤ at → code.TheVariants.Fault at ≡ pattern_at bytes at pattern
+pub pattern-end : (bytes : List ℕ) (at : ℕ) → at ≤ length bytes → length bytes ≤ at → at_fault at ≡ pattern_at bytes at pattern
 unfolding pattern placed_pattern
-pattern-end bytes at i h = ap code.TheVariants.Fault (sym (place-back bytes at i)) ∙ sym (ap (placed_pattern (length bytes)) (chosen_none pattern_kinds bytes at h))
+pattern-end bytes at i h = ap at_fault (sym (place-back bytes at i)) ∙ sym (ap (placed_pattern (length bytes)) (chosen_none pattern_kinds bytes at h))
 
 pub pattern-at : (bytes : List ℕ) (at k : ℕ) → at < length bytes → get_or bytes at 0 ≡ k → placed_pattern (length bytes) (get_or pattern_kinds k (λ rest. fault (drop at bytes)) (drop (at + 1) bytes)) ≡ pattern_at bytes at pattern
 unfolding pattern
 pattern-at bytes at k h e = sym (ap (placed_pattern (length bytes)) (chosen pattern_kinds bytes at k h e))
 
 -- no pattern has this byte
-pub pattern-none : (bytes : List ℕ) (at : ℕ) → at < length bytes → 9 ≤ get_or bytes at 0 → code.TheVariants.Fault at ≡ pattern_at bytes at pattern
+pub pattern-none : (bytes : List ℕ) (at : ℕ) → at < length bytes → 9 ≤ get_or bytes at 0 → at_fault at ≡ pattern_at bytes at pattern
 unfolding placed_pattern
 pattern-none bytes at i h =
-    ap code.TheVariants.Fault (sym (place-back bytes at (omega arith)))
+    ap at_fault (sym (place-back bytes at (omega arith)))
     ∙ ap (λ (r : Reader Raw). placed_pattern (length bytes) (r (drop (at + 1) bytes))) (sym (get_or-eq_default pattern_kinds (λ rest. fault (drop at bytes)) h))
     ∙ pattern-at bytes at (get_or bytes at 0) i refl
 
@@ -187,6 +183,11 @@ kind-after [] e k bs stop = tt
 kind-after (r ∷ rs) e zero bs stop = left_after (r bs) bs (e.0.leaves bs)
 kind-after (r ∷ rs) e (suc k) bs stop = kind-after rs e.1 k bs stop
 
+-- the place that was reached
+abbrev stop_of : Result Pattern Fault → ℕ
+stop_of (Ok p) = p.next
+stop_of (Err e) = e.at
+
 -- a pattern takes a byte or more
 pub record Opened (bytes : List ℕ) (at q k : ℕ) : Type 0 where
   pub raw : Raw
@@ -195,27 +196,27 @@ pub record Opened (bytes : List ℕ) (at q k : ℕ) : Type 0 where
   pub onward : at < q
   pub inside : q ≤ length bytes
 
-pub opened : (bytes : List ℕ) (at q k : ℕ) (c : Pattern) → at ≤ length bytes → c ≡ pattern_at bytes at pattern → c ≡ code.TheVariants.At q k → Opened bytes at q k
+pub opened : (bytes : List ℕ) (at q k : ℕ) (c : Result Pattern Fault) → at ≤ length bytes → c ≡ pattern_at bytes at pattern → c ≡ ends_at q k → Opened bytes at q k
 unfolding pattern placed_pattern
 opened bytes at q k c i e h = go (drop at bytes) refl (sym h ∙ e)
   where
-    there : (b : ℕ) (bs : List ℕ) → drop at bytes ≡ b ∷ bs → (x : scope.Read Raw) → choosing pattern_kinds (b ∷ bs) ≡ x → After x bs → code.TheVariants.At q k ≡ placed_pattern (length bytes) x → Opened bytes at q k
+    there : (b : ℕ) (bs : List ℕ) → drop at bytes ≡ b ∷ bs → (x : scope.Read Raw) → choosing pattern_kinds (b ∷ bs) ≡ x → After x bs → ends_at q k ≡ placed_pattern (length bytes) x → Opened bytes at q k
     there b bs d (fault rest) g t w = clash (cc)
     there b bs d (found p rest) g t w =
-        let place : q ≡ length bytes - length rest = cc in
+        let place : q ≡ length bytes - length rest = ap stop_of w in
         let l : length (drop at bytes) ≡ suc (length bs) = ap length d in
         let tail = tail-tail (tail-tail t (Tail.after Tail.same)) (subst (λ (z : List ℕ). Tail z bytes) d (drop-tail at bytes)) in
         record {
           raw = p;
           reads = ap (choosing pattern_kinds) d ∙ g ∙ ap (found p) (tail-place tail ∙ ap (λ (j : ℕ). drop j bytes) (sym place));
-          follow = cc;
+          follow = ap leaves w;
           onward = omega (arith, tail-length t, length-drop at bytes);
           inside = omega (arith, tail-length tail);
         }
 
-    go : (bs : List ℕ) → drop at bytes ≡ bs → code.TheVariants.At q k ≡ placed_pattern (length bytes) (choosing pattern_kinds (drop at bytes)) → Opened bytes at q k
+    go : (bs : List ℕ) → drop at bytes ≡ bs → ends_at q k ≡ placed_pattern (length bytes) (choosing pattern_kinds (drop at bytes)) → Opened bytes at q k
     go [] d w =
-        let v : code.TheVariants.At q k ≡ placed_pattern (length bytes) (fault []) = w ∙ ap (λ (z : List ℕ). placed_pattern (length bytes) (choosing pattern_kinds z)) d in
+        let v : ends_at q k ≡ placed_pattern (length bytes) (fault []) = w ∙ ap (λ (z : List ℕ). placed_pattern (length bytes) (choosing pattern_kinds z)) d in
         clash (cc)
     go (b ∷ bs) d w = there b bs d (choosing pattern_kinds (b ∷ bs)) refl (kind-after pattern_kinds kinds_keep b bs (b ∷ bs)) (w ∙ ap (λ (z : List ℕ). placed_pattern (length bytes) (choosing pattern_kinds z)) d)
 
@@ -225,17 +226,17 @@ module _ (bytes : List ℕ) (p : ℕ) where
   abbrev others : ℕ → Raw → Reader (List Raw)
   others n r = patterns (inner r + n) >>= λ ps. give (r ∷ ps)
 
-  pub patterns-done : (n : ℕ) → n ≤ 0 → p ≤ length bytes → At p ≡ read_at bytes p (patterns n)
+  pub patterns-done : (n : ℕ) → n ≤ 0 → p ≤ length bytes → Ok p ≡ read_at bytes p (patterns n)
   patterns-done zero h i = found_at (patterns 0) bytes p p [] i (patterns-none (drop p bytes))
   patterns-done (suc n) h i = absurd (omega arith)
 
-  pub patterns-stops : (n : ℕ) (c : Pattern) (q : ℕ) → 0 < n → c ≡ pattern_at bytes p pattern → c ≡ code.TheVariants.Fault q → Fault q ≡ read_at bytes p (patterns n)
+  pub patterns-stops : (n : ℕ) (c : Result Pattern Fault) (q : Fault) → 0 < n → c ≡ pattern_at bytes p pattern → c ≡ Err q → Err q ≡ read_at bytes p (patterns n)
   unfolding placed placed_pattern
   patterns-stops zero c q h e f = absurd (omega arith)
   patterns-stops (suc n) c q h e f = go (pattern (drop p bytes)) (sym f ∙ e) ∙ sym (ap (placed (length bytes)) (patterns_law n (drop p bytes)))
     where
-      go : (x : scope.Read Raw) → code.TheVariants.Fault q ≡ placed_pattern (length bytes) x → Fault q ≡ placed (length bytes) (and_then x (others n))
-      go (fault rest) w = let k : q ≡ length bytes - length rest = cc in ap Fault k
+      go : (x : scope.Read Raw) → at_fault q.at ≡ placed_pattern (length bytes) x → places.at_fault q.at ≡ placed (length bytes) (and_then x (others n))
+      go (fault rest) w = let k : q.at ≡ length bytes - length rest = cc in ap places.at_fault k
       go (found r rest) w = clash (cc)
 
   pub patterns-goes : (n q k : ℕ) → 0 < n → Opened bytes p q k → read_at bytes p (patterns n) ≡ read_at bytes q (patterns (n - 1 + k))

@@ -10,13 +10,13 @@ use borrow.Author.Tests.{eq-eqb, ne_eqb}
 use Rattle.scope.specs.Lists.{bit}
 use Rattle.scope.specs.Walks.{Walk, turned}
 use Rattle.scope.proofs.Tests.{clash}
-use Rattle.matrix.specs.Numbers.{Rows, ar_of, head_of, first_of, mem, all_in, count_of, Seen, bare, part, full, seen_of, recover, each_row}
+use Rattle.matrix.specs.Numbers.{base_of, Rows, ar_of, head_of, first_of, mem, all_in, count_of, Seen, bare, part, full, seen_of, recover, each_row}
 use Rattle.walks.specs.Walks.{unseen_from, missing_by, missing_seen}
 use Rattle.matrix.specs.Places.{Few}
 use Rattle.ctors.specs.Sets.{unseen_set, ctors_of}
 use Rattle.ctors.specs.declared.Ctors.TheVariants.{Open}
 use Rattle.paths.specs.Path.{one, each, chosen, stepped, step_of}
-use Rattle.matrix.proofs.Seen.{first_in, ctor_range, first-few, partly}
+use Rattle.matrix.proofs.Seen.{first_in, ctor_range, seen-cases, first-few, partly}
 
 -- the constructors of the set are the unseen ones
 module _ (ars hs : List ℕ) where
@@ -103,6 +103,14 @@ module _ (cs hs : List ℕ) (few : Few cs hs) where
       ∙ ap (λ (t : Bool). stepped ars (cond t (one b) (each b (unseen_set hs b (count_of cs b)))) m) (ne_eqb (unseen_set hs b (count_of cs b)) 0 nz)
       ∙ each_same (chosen ars (unseen_set hs b (count_of cs b)) b 32) (unseen_from ars hs b (count_of cs b)) (λ r. chosen-unseen ars hs (count_of cs b) 32 b r le) m)
   open_step ars (full b) e node g q m P f h = clash (cc)
+
+-- a type whose constructors are all seen has at most 32
+pub full-few : (cs hs : List ℕ) → Few cs hs → (b : ℕ) → seen_of cs hs ≡ full b → count_of cs b ≤ 32
+full-few cs hs few b e = seen-cases cs hs (λ (x : Seen). x ≡ full b → count_of cs b ≤ 32)
+    (λ z q. clash (cc))
+    (λ z a q. clash (cc))
+    (λ z a q. let s : base_of (first_of hs) ≡ b = cc in first-few cs hs few (first_of hs) b (count_of cs b) refl z (sym s) refl)
+    e
 
 -- the walk below a column that is not complete
 pub open_walk : (bytes cs ars : List ℕ) (again : ℕ → Rows → Walk Rows) (n : ℕ) (m : Rows) → Few cs (map head_of m)

@@ -3,19 +3,21 @@ use mathlib.Core.Path.{◌≡◌, sym, ◌∙◌}
 use mathlib.Core.List.{List}
 use Prim.Native.Nat.{ℕ}
 use lib.ListN.{take}
+use Rattle.std.specs.Prelude.{Result, Ok}
 use Rattle.scope.specs.Walks.{Walk}
 use Rattle.matrix.specs.Numbers.{Rows}
 use Rattle.outcomes.specs.declared.Seek.{Seek}
-use Rattle.outcomes.specs.declared.Seek.TheVariants as seek
+use Rattle.outcomes.specs.declared.TooMuch.{TooMuch}
 use Rattle.outcomes.proofs.Tests.{same_seek}
+use Rattle.paths.specs.declared.Steps.{Steps}
 use Rattle.collect.specs.Ready.{Sought}
 
-module _ {s e e' path p p' alts a a' out o o' : List ℕ} {rows depth written found calls room : ℕ} {r r' : Seek} {w : Walk Rows} (h : Sought s rows e path p alts a depth out o written found calls room r w) (k : Sought s rows e' path p' alts a' depth out o' written found calls room r' w) where
+module _ {s e e' out o o' : List ℕ} {p q q' : Steps} {rows depth room : ℕ} {at : Seek} {r r' : Result Seek TooMuch} {w : Walk Rows} (h : Sought s rows e p q depth out o at room r w) (k : Sought s rows e' p q' depth out o' at room r' w) where
   pub one_seek : r ≡ r'
   one_seek = same_seek r r' (h.is ∙ sym k.is)
 
-  pub one-front : (take rows e ≡ take rows e') × (take depth p ≡ take depth p') × (take depth a ≡ take depth a')
+  pub one-front : (take rows e ≡ take rows e') × (take depth q.nodes ≡ take depth q'.nodes) × (take depth q.sets ≡ take depth q'.sets)
   one-front = (h.kept ∙ sym k.kept, h.kept_path ∙ sym k.kept_path, h.kept_alts ∙ sym k.kept_alts)
 
-  pub one_output : (n m c : ℕ) → r ≡ seek.Done n m c → o ≡ o'
-  one_output n m c d = h.text n m c d ∙ sym (k.text n m c (sym one_seek ∙ d))
+  pub one_output : (v : Seek) → r ≡ Ok v → o ≡ o'
+  one_output v d = h.text v d ∙ sym (k.text v (sym one_seek ∙ d))

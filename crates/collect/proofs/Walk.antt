@@ -6,22 +6,23 @@ use Prim.Native.Nat.{ℕ, zero, suc, ◌+◌, ◌-◌, ◌≤◌, ◌<◌}
 use native.Mathlib.Omega.{arith}
 use lib.ListN.{length, get_or, take, set, length-set}
 use lib.Seq.{sets, get_or-set_same, get_or-set_other, get_or-take, take-take}
+use Rattle.std.specs.Prelude.{Result, Ok, Err, IsErr}
 use Rattle.cells.proofs.Laws.{sets-sets}
 use Rattle.scope.specs.Lists.{flatten}
 use Rattle.scope.specs.Walks.{Walk, plain, holding, joined}
+use Rattle.scope.specs.Blocks.{ok, refuse}
 use Rattle.scope.proofs.Tests.{clash}
 use Rattle.matrix.specs.Numbers.{Rows}
-use Rattle.paths.specs.Spread.{Spread, Spelling}
-use Rattle.collect.specs.Ready.{Trail, Sought}
+use Rattle.paths.specs.Spread.{Spread}
+use Rattle.collect.specs.Ready.{Trail, Sought, sought}
 use Rattle.outcomes.specs.Past.{said_spelt, said_seek, counting}
-use Rattle.outcomes.proofs.Tests.{same_seek}
 use Rattle.outcomes.specs.declared.Spelt.{Spelt}
-use Rattle.outcomes.specs.declared.Spelt.TheVariants as spelt
 use Rattle.outcomes.specs.declared.Seek.{Seek}
-use Rattle.outcomes.specs.declared.Seek.TheVariants.{Done, Over}
+use Rattle.outcomes.specs.declared.TooMuch.{TooMuch}
+use Rattle.paths.specs.declared.Steps.{Steps}
 use Rattle.matrix.proofs.Orders.{same_or}
 use Rattle.paths.proofs.PathSpread.{flatten_append, flatten-length}
-use Rattle.collect.proofs.Limits.{IsDone, done-is, over-cells, over-calls, enter, done-leaf, over-leaf, none_done, join-over, join-then}
+use Rattle.collect.proofs.Limits.{IsDone, done-is, enter, done-leaf, over-leaf, none_done, join-over, join-then}
 
 -- the path with one step more
 take-set : (p : List ℕ) (d x : ℕ) → take d (set p d x) ≡ take d p
@@ -35,7 +36,14 @@ take_less p d = take-take d (d + 1) p (omega arith)
 pub kept_less : (p q : List ℕ) (d x : ℕ) → take (d + 1) q ≡ take (d + 1) (set p d x) → take d q ≡ take d p
 kept_less p q d x e = sym (take_less q d) ∙ ap (take d) e ∙ take_less (set p d x) d ∙ take-set p d x
 
-module _ (path alts : List ℕ) (depth room written found : ℕ) where
+-- what an answer that is done says, and that it says no refusal
+said-same : (v : Seek) (w : ℕ × (ℕ × ℕ)) → said_seek (Ok v) ≡ ok w → ◌≡◌ {A = ℕ × (ℕ × ℕ)} (v.written, (v.rows, v.calls)) w
+said-same v w e = cc
+
+said-over : {A : Type 0} (v : Seek) → said_seek (Ok v) ≡ refuse 10 → A
+said-over v e = clash (cc)
+
+module _ {path alts : List ℕ} {depth room written found : ℕ} where
   pub trail_next : Trail path alts depth (room + 1) written found → (x g : ℕ) → x + 32 < 65536 → Trail (set path depth x) (set alts depth g) (depth + 1) room written found
   trail_next t x g l = record {
     deep = omega (arith, t.deep);
@@ -53,8 +61,8 @@ module _ (path alts : List ℕ) (depth room written found : ℕ) where
       there i e h = subst (λ (y : ℕ). y + 32 < 65536) (sym (get_or-set_other path depth i x 0 e)) (t.low.each i (omega arith))
 
   -- the trail after a walk that kept it
-  pub trail_kept : Trail path alts depth room written found → (pe ae : List ℕ) → take depth pe ≡ take depth path → length pe ≡ length path → length ae ≡ length alts → (w k : ℕ) → w ≤ 4096 → k ≤ w → Trail pe ae depth room w k
-  trail_kept t pe ae q lp la w k lw lk = record {
+  pub trail_kept : Trail path alts depth room written found → {pe ae : List ℕ} → take depth pe ≡ take depth path → length pe ≡ length path → length ae ≡ length alts → {w k : ℕ} → w ≤ 4096 → k ≤ w → Trail pe ae depth room w k
+  trail_kept t {pe} q lp la lw lk = record {
     deep = t.deep;
     long_path = omega (arith, t.long_path);
     long_alts = omega (arith, t.long_alts);
@@ -63,77 +71,87 @@ module _ (path alts : List ℕ) (depth room written found : ℕ) where
     few = lk;
   }
 
-  -- all steps of the path are still to be chosen at a leaf
-  pub trail_spelling : Trail path alts depth room written found → (n : ℕ) → n ≤ 16640 → 0 < depth + n → Spelling path alts depth depth n written found
-  trail_spelling t n l z = record { inside = omega arith; long_path = omega (arith, t.deep, t.long_path); long_alts = omega (arith, t.deep, t.long_alts); deep = omega (arith, t.deep); wide = l; low = t.low; some = z; within = t.within; few = t.few }
+-- the path with one step more
+abbrev pub step_at : Steps → ℕ → ℕ → ℕ → Steps
+step_at p d x g = record { nodes = set p.nodes d x; sets = set p.sets d g }
 
-module _ (s : List ℕ) (rows : ℕ) (e path pe alts ae : List ℕ) (depth : ℕ) (out oe : List ℕ) (written found calls room : ℕ) (r : Seek) where
+module _ {s e out oe : List ℕ} {p q : Steps} {rows depth room : ℕ} {at : Seek} {r : Result Seek TooMuch} where
   -- the same walk
-  pub sought-same : (o o' : Walk Rows) → o ≡ o' → Sought s rows e path pe alts ae depth out oe written found calls room r o → Sought s rows e path pe alts ae depth out oe written found calls room r o'
-  sought-same o o' q h = subst (Sought s rows e path pe alts ae depth out oe written found calls room r) q h
+  pub sought-same : {o o' : Walk Rows} → o ≡ o' → Sought s rows e p q depth out oe at room r o → Sought s rows e p q depth out oe at room r o'
+  sought-same i h = subst (Sought s rows e p q depth out oe at room r) i h
 
   -- a walk with one step more in the path
-  pub sought-step : (x g : ℕ) (o : Walk Rows) → Sought s rows e (set path depth x) pe (set alts depth g) ae (depth + 1) out oe written found calls room r o → Sought s rows e path pe alts ae depth out oe written found calls room r o
-  sought-step x g o h = record { kept = h.kept; kept_path = kept_less path pe depth x h.kept_path; kept_alts = kept_less alts ae depth g h.kept_alts; long_path = h.long_path ∙ length-set path depth x; long_alts = h.long_alts ∙ length-set alts depth g; long_out = h.long_out; is = h.is; text = h.text; few = h.few }
+  pub sought-step : (x g : ℕ) {o : Walk Rows} → Sought s rows e (step_at p depth x g) q (depth + 1) out oe at room r o → Sought s rows e p q depth out oe at room r o
+  sought-step x g h = record { kept = h.kept; kept_path = kept_less p.nodes q.nodes depth x h.kept_path; kept_alts = kept_less p.sets q.sets depth g h.kept_alts; long_path = h.long_path ∙ length-set p.nodes depth x; long_alts = h.long_alts ∙ length-set p.sets depth g; long_out = h.long_out; is = h.is; text = h.text; few = h.few }
 
   -- a walk in a call that is entered
-  pub sought-enter : (cells : ℕ) (o : Walk Rows) → cells ≤ room → Sought s rows e path pe alts ae depth out oe written found (calls + 1) (room - cells) r o → Sought s rows e path pe alts ae depth out oe written found calls room r (holding cells o)
-  sought-enter cells o l h = record { kept = h.kept; kept_path = h.kept_path; kept_alts = h.kept_alts; long_path = h.long_path; long_alts = h.long_alts; long_out = h.long_out; is = h.is ∙ enter calls room written found cells o l; text = h.text; few = h.few }
+  pub sought-enter : {cells : ℕ} {o : Walk Rows} → cells ≤ room → Sought s rows e p q depth out oe (record at { calls = at.calls + 1 }) (room - cells) r o → Sought s rows e p q depth out oe at room r (holding cells o)
+  sought-enter {cells} {o} l h = record { kept = h.kept; kept_path = h.kept_path; kept_alts = h.kept_alts; long_path = h.long_path; long_alts = h.long_alts; long_out = h.long_out; is = h.is ∙ enter at.calls room at.written at.rows cells o l; text = h.text; few = h.few }
 
 -- walks that end at once
-module _ (s : List ℕ) (rows : ℕ) (path alts : List ℕ) (depth : ℕ) (out : List ℕ) (written found calls room cells : ℕ) where
-  pub sought-cells : (o : Walk Rows) → room < cells → Sought s rows s path path alts alts depth out out written found calls room Over (holding cells o)
-  sought-cells o l = record { kept = refl; kept_path = refl; kept_alts = refl; long_path = refl; long_alts = refl; long_out = refl; is = over-cells calls room written found cells o l; text = λ w k c q. clash (cc); few = λ w k c q. clash (cc) }
+module _ (s : List ℕ) (rows : ℕ) (p : Steps) (depth : ℕ) (out : List ℕ) (at : Seek) (room : ℕ) where
+  pub sought-past : (cells : ℕ) (t : TooMuch) (o : Walk Rows) → refuse 10 ≡ sought at.calls room at.written at.rows (holding cells o) → Sought s rows s p p depth out out at room (Err t) (holding cells o)
+  sought-past cells t o i = record { kept = refl; kept_path = refl; kept_alts = refl; long_path = refl; long_alts = refl; long_out = refl; is = i; text = λ v q. clash (cc); few = λ v q. clash (cc) }
 
-  pub sought-calls : (o : Walk Rows) → 65536 ≤ calls → Sought s rows s path path alts alts depth out out written found calls room Over (holding cells o)
-  sought-calls o l = record { kept = refl; kept_path = refl; kept_alts = refl; long_path = refl; long_alts = refl; long_out = refl; is = over-calls calls room written found cells o l; text = λ w k c q. clash (cc); few = λ w k c q. clash (cc) }
+  pub sought-none : at.calls ≤ 65536 → at.written ≤ 4096 → at.rows ≤ at.written → Sought s rows s p p depth out out at room (Ok at) (plain [])
+  sought-none l k f = record {
+    kept = refl;
+    kept_path = refl;
+    kept_alts = refl;
+    long_path = refl;
+    long_alts = refl;
+    long_out = refl;
+    is = none_done at.calls room at.written at.rows l k;
+    text = λ v q. refl;
+    few = λ v q. let x : at ≡ v = cc in subst (λ (y : Seek). y.rows ≤ y.written) x f;
+  }
 
-  pub sought-none : calls ≤ 65536 → written ≤ 4096 → found ≤ written → Sought s rows s path path alts alts depth out out written found calls room (Done written found calls) (plain [])
-  sought-none l k f = record { kept = refl; kept_path = refl; kept_alts = refl; long_path = refl; long_alts = refl; long_out = refl; is = none_done calls room written found l k; text = λ w n c q. refl; few = λ w n c q. let x : written ≡ w = cc in let y : found ≡ n = cc in omega arith }
-
-  module _ (m : Rows) (fits : cells ≤ room) (lt : calls < 65536) (v : Spelt) (oe : List ℕ) (h : Spread out written found m v oe) (pe : List ℕ) (pq : pe ≡ path) where
-    leaf-over : v ≡ spelt.Over → Sought s rows s path pe alts alts depth out oe written found calls room Over (holding cells (plain m))
-    leaf-over q = record { kept = refl; kept_path = ap (take depth) pq; kept_alts = refl; long_path = ap length pq; long_alts = refl; long_out = h.long; is = over-leaf calls room written found cells m fits lt (sym (ap said_spelt q) ∙ h.is); text = λ w k c z. clash (cc); few = λ w k c z. clash (cc) }
-
-    leaf-done : (n k : ℕ) → v ≡ spelt.Done n k → Sought s rows s path pe alts alts depth out oe written found calls room (Done n k (calls + 1)) (holding cells (plain m))
-    leaf-done n k q = record {
+  module _ {cells : ℕ} {m : Rows} (fits : cells ≤ room) (lt : at.calls < 65536) {oe : List ℕ} {q : Steps} (pq : q ≡ p) where
+    pub sought-leaf : (v : Result Spelt TooMuch) → Spread out at.written at.rows m v oe → (x : Result Seek TooMuch) → said_seek x ≡ counting (said_spelt v) at.calls → Sought s rows s p q depth out oe at room x (holding cells (plain m))
+    sought-leaf (Ok w) h x i = record {
       kept = refl;
-      kept_path = ap (take depth) pq;
-      kept_alts = refl;
-      long_path = ap length pq;
-      long_alts = refl;
+      kept_path = ap (λ (y : Steps). take depth y.nodes) pq;
+      kept_alts = ap (λ (y : Steps). take depth y.sets) pq;
+      long_path = ap (λ (y : Steps). length y.nodes) pq;
+      long_alts = ap (λ (y : Steps). length y.sets) pq;
       long_out = h.long;
-      is = done-leaf calls room written found cells m fits lt n k (sym (ap said_spelt q) ∙ h.is);
-      text = λ w j c z. h.text n k q;
-      few = λ w j c z. let x : n ≡ w = cc in let y : k ≡ j = cc in omega (arith, h.few n k q);
+      is = i ∙ done-leaf at.calls room at.written at.rows cells m fits lt w.written w.rows h.is;
+      text = λ v z. h.text w refl;
+      few = λ v z. let j = said-same v (w.written, (w.rows, at.calls + 1)) (sym (ap said_seek z) ∙ i) in omega (arith, ap (λ (y : ℕ × (ℕ × ℕ)). y.0) j, ap (λ (y : ℕ × (ℕ × ℕ)). y.1.0) j, h.few w refl);
+    }
+    sought-leaf (Err t) h x i = record {
+      kept = refl;
+      kept_path = ap (λ (y : Steps). take depth y.nodes) pq;
+      kept_alts = ap (λ (y : Steps). take depth y.sets) pq;
+      long_path = ap (λ (y : Steps). length y.nodes) pq;
+      long_alts = ap (λ (y : Steps). length y.sets) pq;
+      long_out = h.long;
+      is = i ∙ over-leaf at.calls room at.written at.rows cells m fits lt h.is;
+      text = λ v z. said-over v (sym (ap said_seek z) ∙ i);
+      few = λ v z. said-over v (sym (ap said_seek z) ∙ i);
     }
 
-    pub sought-leaf : (x : Seek) → said_seek x ≡ counting (said_spelt v) calls → Sought s rows s path pe alts alts depth out oe written found calls room x (holding cells (plain m))
-    sought-leaf x e = go v refl
-      where
-        go : (u : Spelt) → v ≡ u → Sought s rows s path pe alts alts depth out oe written found calls room x (holding cells (plain m))
-        go (spelt.Done n k) q = subst (λ (y : Seek). Sought s rows s path pe alts alts depth out oe written found calls room y (holding cells (plain m))) (sym (same_seek x (Done n k (calls + 1)) (e ∙ ap (λ (u : Spelt). counting (said_spelt u) calls) q))) (leaf-done n k q)
-        go spelt.Over q = subst (λ (y : Seek). Sought s rows s path pe alts alts depth out oe written found calls room y (holding cells (plain m))) (sym (same_seek x Over (e ∙ ap (λ (u : Spelt). counting (said_spelt u) calls) q))) (leaf-over q)
-
 -- one walk, then another
-module _ (s : List ℕ) (rows : ℕ) (e path pe alts ae : List ℕ) (depth : ℕ) (out oe : List ℕ) (written found calls room : ℕ) (r : Seek) (a b : Walk Rows) (h : Sought s rows e path pe alts ae depth out oe written found calls room r a) where
-  pub sought-over : r ≡ Over → Sought s rows e path pe alts ae depth out oe written found calls room Over (joined ◌++◌ a b)
-  sought-over q = record { kept = h.kept; kept_path = h.kept_path; kept_alts = h.kept_alts; long_path = h.long_path; long_alts = h.long_alts; long_out = h.long_out; is = join-over calls room written found a b (sym (ap said_seek q) ∙ h.is); text = λ w k c z. clash (cc); few = λ w k c z. clash (cc) }
+module _ {s e out oe : List ℕ} {p q : Steps} {rows depth room : ℕ} {at : Seek} {r : Result Seek TooMuch} {a : Walk Rows} (b : Walk Rows) (h : Sought s rows e p q depth out oe at room r a) where
+  pub sought-stop : {t : TooMuch} → r ≡ Err t → {u : Result Seek TooMuch} → IsErr u → Sought s rows e p q depth out oe at room u (joined ◌++◌ a b)
+  sought-stop i {u = Ok v} z = clash (cc)
+  sought-stop i {u = Err y} z = record { kept = h.kept; kept_path = h.kept_path; kept_alts = h.kept_alts; long_path = h.long_path; long_alts = h.long_alts; long_out = h.long_out; is = join-over at.calls room at.written at.rows a b (sym (ap said_seek i) ∙ h.is); text = λ v z. clash (cc); few = λ v z. clash (cc) }
 
-  pub sought-done : (w k c : ℕ) → r ≡ Done w k c → IsDone calls room written found a w k c
-  sought-done w k c q = done-is calls room written found a w k c (sym (ap said_seek q) ∙ h.is)
+  module _ {v : Seek} (i : r ≡ Ok v) where
+    pub sought-done : IsDone at.calls room at.written at.rows a v.written v.rows v.calls
+    sought-done = done-is at.calls room at.written at.rows a v.written v.rows v.calls (sym (ap said_seek i) ∙ h.is)
 
-  pub sought-then : (w k c : ℕ) → r ≡ Done w k c → (e₂ pe₂ ae₂ oe₂ : List ℕ) (r₂ : Seek) → Sought e rows e₂ pe pe₂ ae ae₂ depth oe oe₂ w k c room r₂ b → Sought s rows e₂ path pe₂ alts ae₂ depth out oe₂ written found calls room r₂ (joined ◌++◌ a b)
-  sought-then w k c q e₂ pe₂ ae₂ oe₂ r₂ h₂ = record {
-    kept = h₂.kept ∙ h.kept;
-    kept_path = h₂.kept_path ∙ h.kept_path;
-    kept_alts = h₂.kept_alts ∙ h.kept_alts;
-    long_path = h₂.long_path ∙ h.long_path;
-    long_alts = h₂.long_alts ∙ h.long_alts;
-    long_out = h₂.long_out ∙ h.long_out;
-    is = h₂.is ∙ join-then calls room written found a b w k c (sym (ap said_seek q) ∙ h.is);
-    text = λ w₂ k₂ c₂ z.
-        let n : w ≡ written + length (flatten a.result) = (sought-done w k c q).nodes ∙ ap (λ (x : ℕ). written + x) (sym (flatten-length a.result)) in
-        h₂.text w₂ k₂ c₂ z ∙ ap₂ (λ (x : List ℕ) (y : ℕ). sets x y (flatten b.result)) (h.text w k c q) n ∙ sets-sets (flatten a.result) (flatten b.result) out written ∙ ap (sets out written) (sym (flatten_append a.result b.result));
-    few = h₂.few;
-  }
+    pub sought-then : {e₂ oe₂ : List ℕ} {q₂ : Steps} {r₂ : Result Seek TooMuch} → Sought e rows e₂ q q₂ depth oe oe₂ v room r₂ b → Sought s rows e₂ p q₂ depth out oe₂ at room r₂ (joined ◌++◌ a b)
+    sought-then h₂ = record {
+      kept = h₂.kept ∙ h.kept;
+      kept_path = h₂.kept_path ∙ h.kept_path;
+      kept_alts = h₂.kept_alts ∙ h.kept_alts;
+      long_path = h₂.long_path ∙ h.long_path;
+      long_alts = h₂.long_alts ∙ h.long_alts;
+      long_out = h₂.long_out ∙ h.long_out;
+      is = h₂.is ∙ join-then at.calls room at.written at.rows a b v.written v.rows v.calls (sym (ap said_seek i) ∙ h.is);
+      text = λ w z.
+          let n : v.written ≡ at.written + length (flatten a.result) = sought-done.nodes ∙ ap (λ (x : ℕ). at.written + x) (sym (flatten-length a.result)) in
+          h₂.text w z ∙ ap₂ (λ (x : List ℕ) (y : ℕ). sets x y (flatten b.result)) (h.text v i) n ∙ sets-sets (flatten a.result) (flatten b.result) out at.written ∙ ap (sets out at.written) (sym (flatten_append a.result b.result));
+      few = h₂.few;
+    }

@@ -1,5 +1,5 @@
 -- What the walk of missing rows may assume, and what it leaves.
-use Rattle.std.specs.Prelude.{◌≡◌, cond, ◌&&◌, List, ℕ, ◌+◌, ◌≤◌, ◌<◌, length, take, leb}
+use Rattle.std.specs.Prelude.{◌≡◌, cond, ◌&&◌, List, ℕ, ◌+◌, ◌≤◌, ◌<◌, length, take, leb, Result, Ok}
 use Rattle.std.proofs.lemmas.List.Edits.{sets}
 use Rattle.scope.specs.Limits.{max_missing}
 use Rattle.scope.specs.Lists.{flatten}
@@ -7,10 +7,11 @@ use Rattle.scope.specs.Walks.{Walk}
 use Rattle.scope.specs.Blocks.{Step, ok, refuse}
 use Rattle.outcomes.specs.Past.{said_seek}
 use Rattle.outcomes.specs.declared.Seek.{Seek}
-use Rattle.outcomes.specs.declared.Seek.TheVariants as seek
+use Rattle.outcomes.specs.declared.TooMuch.{TooMuch}
 use Rattle.matrix.specs.Numbers.{Rows}
 use Rattle.matrix.specs.Places.{Places, Sizes}
 use Rattle.walks.specs.Limits.{within}
+use Rattle.paths.specs.declared.Steps.{Steps}
 use Rattle.paths.specs.Spread.{Low, nodes_of}
 
 -- what the answer of `collect_missing_patterns` says after so many calls, nodes and rows: 10 exactly when a limit is passed
@@ -48,13 +49,13 @@ pub record Held (nodes left counts arities : List ℕ) (n : ℕ) (s : List ℕ) 
   pub some : 0 < n
 
 -- what a walk leaves: the matrix at the front of the scratch, the path, the answer that the limits make of the walk o, and its rows written out
-pub record Sought (s : List ℕ) (rows : ℕ) (e path path_end alts alts_end : List ℕ) (depth : ℕ) (out out_end : List ℕ) (written found calls room : ℕ) (r : Seek) (o : Walk Rows) : Type 0 where
+pub record Sought (s : List ℕ) (rows : ℕ) (e : List ℕ) (p q : Steps) (depth : ℕ) (out out_end : List ℕ) (at : Seek) (room : ℕ) (r : Result Seek TooMuch) (o : Walk Rows) : Type 0 where
   pub kept : take rows e ≡ take rows s
-  pub kept_path : take depth path_end ≡ take depth path
-  pub kept_alts : take depth alts_end ≡ take depth alts
-  pub long_path : length path_end ≡ length path
-  pub long_alts : length alts_end ≡ length alts
+  pub kept_path : take depth q.nodes ≡ take depth p.nodes
+  pub kept_alts : take depth q.sets ≡ take depth p.sets
+  pub long_path : length q.nodes ≡ length p.nodes
+  pub long_alts : length q.sets ≡ length p.sets
   pub long_out : length out_end ≡ length out
-  pub is : said_seek r ≡ sought calls room written found o
-  pub text : (w k c : ℕ) → r ≡ seek.Done w k c → out_end ≡ sets out written (flatten o.result)
-  pub few : (w k c : ℕ) → r ≡ seek.Done w k c → k ≤ w
+  pub is : said_seek r ≡ sought at.calls room at.written at.rows o
+  pub text : (v : Seek) → r ≡ Ok v → out_end ≡ sets out at.written (flatten o.result)
+  pub few : (v : Seek) → r ≡ Ok v → v.rows ≤ v.written

@@ -8,8 +8,9 @@ ghost use Rattle.ctors.specs.Sets.{down_set, ctors_of};
 
 use column::{all, count, first, seen};
 use heads::base;
+use layout::lent::Block;
 
-#[derive(Drop)]
+#[derive(Clone, Copy, Debug, PartialEq, Eq)]
 pub enum Ctors {
     Complete { first: u16, count: usize },
     Open { node: u16, set: u32 },
@@ -20,33 +21,27 @@ fn unseen(flags: [bool; 32], k: usize) -> u32
     requires { k ≤ 32 }
     ensures { result ≡ down_set flags 0 k }
 {
-    let mut set: u32 = 0;
-    let mut i = k;
-    while 0 < i {
-        i -= 1;
-        set = 2 * set;
-        if !flags[i] {
-            set += 1;
-        }
+    let mut set = 0;
+    for i in (0..k).rev() {
+        set = 2 * set + u32::from(!flags[i]);
     }
     set
 }
 
 // What is seen in a column: all constructors of its type; or the step of the path that is left to take.
-pub fn collect_ctors(nodes: &[u16], left: &[u16], counts: &[u8], ps: &[u16], n: usize) -> Ctors
-    requires { Few counts.now (map (head_at nodes.now left.now n) ps.now) }
-    ensures { result ≡ ctors_of counts.now (map (head_at nodes.now left.now n) ps.now) (seen_of counts.now (map (head_at nodes.now left.now n) ps.now)) }
+pub fn collect_ctors(b: &Block<'_>, ps: &[u16], n: usize) -> Ctors
+    requires { Few b.now.types.counts.now (map (head_at b.now.nodes.now b.now.left.now n) ps.now) }
+    ensures { let hs = map (head_at b.now.nodes.now b.now.left.now n) ps.now in result ≡ ctors_of b.now.types.counts.now hs (seen_of b.now.types.counts.now hs) }
 {
-    let h = first(nodes, left, counts, ps, n);
-    if h == 0 {
+    let Some(h) = first(b, ps, n) else {
         return Ctors::Open { node: 0, set: 0 };
-    }
-    let b = base(h);
-    let k = count(counts, b);
-    let flags = seen(nodes, left, ps, n, b);
+    };
+    let c = base(h);
+    let k = count(&b.types, c);
+    let flags = seen(b, ps, n, c);
     if all(flags, k) {
-        return Ctors::Complete { first: b, count: k };
+        return Ctors::Complete { first: c, count: k };
     }
-    let g = unseen(flags, k);
-    Ctors::Open { node: b, set: g }
+    let set = unseen(flags, k);
+    Ctors::Open { node: c, set }
 }

@@ -6,21 +6,22 @@ use Prim.Native.Nat.{ℕ, zero, suc, ◌+◌, ◌-◌, ◌≤◌, ◌<◌}
 use native.Mathlib.Omega.{arith}
 use lib.ListN.{length, get_or, drop, get_or-eq_default}
 use lib.Dec.{ltb, eqb}
+use mir.Val.{bool_byte}
 use borrow.Author.Tests.{ltb-true, ltb-false}
 use Rattle.scope.specs.Lists.{Text, bit, among}
 use Rattle.scope.specs.Types.{Ref, Ctor, Ty, integer, byte_string, opaque, list, tuple, pair, dat}
 use Rattle.scope.specs.Frames as scope
 use Rattle.scope.specs.Frames.{fault, found, Reader, and_then, ◌>>=◌, give, byte, passing, within, flag, times, big_name, small_name, type_kinds, type_frame, fields_for, constructor_frame}
 use Rattle.scope.proofs.Tests.{among-is}
-use Rattle.fields.specs.declared.Read.{Read}
-use Rattle.fields.specs.declared.Read.TheVariants.{At, Fault}
-use Rattle.fields.specs.Places.{placed, read_at}
+use Rattle.std.specs.Prelude.{Result, Ok, Err}
+use Rattle.fields.specs.declared.Fault.{Fault}
+use Rattle.fields.specs.Places.{at_fault, placed, read_at}
 use Rattle.declarations.specs.Pieces.{counted_bytes, field, fields_with, fields}
 use Rattle.fields.proofs.Readers.{Keeps, give-keeps, byte-keeps, passing-keeps, bind_keeps, times-keeps, choosing-keeps, fault-stays, give-stays, goes_on, found_at, fault-at, place-back, any, byte_reads, passing-ends, passing-stops, passing-goes, Passed, passed, read-stops, read-passes, Reached, times-stops, times_goes, after-byte, byte_at, bind_bind, chosen, chosen_none}
-use Rattle.fields.proofs.Readings.{name-keeps, flag-bit, flag-keeps}
+use Rattle.fields.proofs.Readings.{name-keeps, flag-keeps}
 
 -- A type's frame, by its first byte
-pub type-end : (bytes : List ℕ) (at : ℕ) → at ≤ length bytes → length bytes ≤ at → Fault at ≡ read_at bytes at type_frame
+pub type-end : (bytes : List ℕ) (at : ℕ) → at ≤ length bytes → length bytes ≤ at → at_fault at ≡ read_at bytes at type_frame
 unfolding type_frame
 type-end bytes at i h = fault-at type_frame bytes at at i (chosen_none type_kinds bytes at h)
 
@@ -31,25 +32,25 @@ module _ (bytes : List ℕ) (at k : ℕ) (inside : at < length bytes) (kind : ge
 
 module _ (bytes : List ℕ) (at : ℕ) (inside : at < length bytes) where
   -- nothing follows
-  plain : (ty : Ty) → At (at + 1) ≡ read_at bytes (at + 1) (give ty)
+  plain : (ty : Ty) → Ok (at + 1) ≡ read_at bytes (at + 1) (give ty)
   plain ty = found_at (give ty) bytes (at + 1) (at + 1) ty (omega arith) refl
 
-  pub type-integer : get_or bytes at 0 ≡ 0 → At (at + 1) ≡ read_at bytes at type_frame
+  pub type-integer : get_or bytes at 0 ≡ 0 → Ok (at + 1) ≡ read_at bytes at type_frame
   type-integer k = plain integer ∙ sym (type-at bytes at 0 inside k)
 
-  pub type-bytes : get_or bytes at 0 ≡ 1 → At (at + 1) ≡ read_at bytes at type_frame
+  pub type-bytes : get_or bytes at 0 ≡ 1 → Ok (at + 1) ≡ read_at bytes at type_frame
   type-bytes k = plain byte_string ∙ sym (type-at bytes at 1 inside k)
 
-  pub type-opaque : get_or bytes at 0 ≡ 2 → At (at + 1) ≡ read_at bytes at type_frame
+  pub type-opaque : get_or bytes at 0 ≡ 2 → Ok (at + 1) ≡ read_at bytes at type_frame
   type-opaque k = plain opaque ∙ sym (type-at bytes at 2 inside k)
 
-  pub type_data : get_or bytes at 0 ≡ 6 → At (at + 1) ≡ read_at bytes at type_frame
+  pub type_data : get_or bytes at 0 ≡ 6 → Ok (at + 1) ≡ read_at bytes at type_frame
   type_data k = plain (dat []) ∙ sym (type-at bytes at 6 inside k)
 
-  pub type-list : (c : Read) → get_or bytes at 0 ≡ 3 → c ≡ read_at bytes (at + 1) byte → c ≡ read_at bytes at type_frame
+  pub type-list : (c : Result ℕ Fault) → get_or bytes at 0 ≡ 3 → c ≡ read_at bytes (at + 1) byte → c ≡ read_at bytes at type_frame
   type-list c k e = e ∙ sym (give-stays (length bytes) (byte (drop (at + 1) bytes)) list) ∙ sym (type-at bytes at 3 inside k)
 
-  pub type-tuple : (c : Read) → get_or bytes at 0 ≡ 4 → c ≡ read_at bytes (at + 1) counted_bytes → c ≡ read_at bytes at type_frame
+  pub type-tuple : (c : Result ℕ Fault) → get_or bytes at 0 ≡ 4 → c ≡ read_at bytes (at + 1) counted_bytes → c ≡ read_at bytes at type_frame
   type-tuple c k e =
       e
       ∙ sym (give-stays (length bytes) (counted_bytes (drop (at + 1) bytes)) tuple)
@@ -57,7 +58,7 @@ module _ (bytes : List ℕ) (at : ℕ) (inside : at < length bytes) where
       ∙ sym (type-at bytes at 4 inside k)
 
   -- two bytes, one after the other
-  pub type-pair : (c : Read) → get_or bytes at 0 ≡ 5 → c ≡ read_at bytes (at + 1) (times 2 byte) → c ≡ read_at bytes at type_frame
+  pub type-pair : (c : Result ℕ Fault) → get_or bytes at 0 ≡ 5 → c ≡ read_at bytes (at + 1) (times 2 byte) → c ≡ read_at bytes at type_frame
   unfolding placed
   type-pair c k e = e ∙ two (drop (at + 1) bytes) ∙ sym (type-at bytes at 5 inside k)
     where
@@ -67,10 +68,10 @@ module _ (bytes : List ℕ) (at : ℕ) (inside : at < length bytes) where
       two (x ∷ y ∷ bs) = refl
 
   -- no type has this byte
-  pub type-none : 7 ≤ get_or bytes at 0 → Fault at ≡ read_at bytes at type_frame
+  pub type-none : 7 ≤ get_or bytes at 0 → at_fault at ≡ read_at bytes at type_frame
   unfolding placed
   type-none h =
-      ap Fault (sym (place-back bytes at (omega arith)))
+      ap at_fault (sym (place-back bytes at (omega arith)))
       ∙ ap (λ (r : Reader Ty). placed (length bytes) (r (drop (at + 1) bytes))) (sym (get_or-eq_default type_kinds (λ rest. fault (drop at bytes)) h))
       ∙ sym (type-at bytes at (get_or bytes at 0) inside refl)
 
@@ -104,19 +105,16 @@ fields-times (suc n) m bs = go (byte bs) (λ rest. fields-times n m rest)
 
 -- A tuple's count and types
 module _ (bytes : List ℕ) (at n : ℕ) (is : n ≡ get_or bytes at 0) where
-  pub counted_none : at ≤ length bytes → among 2 16 n ≡ false → Fault at ≡ read_at bytes at counted_bytes
-  counted_none i g = fault-stays (length bytes) (within 2 16 (drop at bytes)) (λ n. times n byte) (Fault at) at (read-stops (among 2 16) refl bytes at n is i g) refl
+  pub counted_none : at ≤ length bytes → among 2 16 n ≡ false → at_fault at ≡ read_at bytes at counted_bytes
+  counted_none i g = fault-stays (length bytes) (within 2 16 (drop at bytes)) (λ n. times n byte) (at_fault at) at (read-stops (among 2 16) refl bytes at n is i g) refl
 
-  pub counted-some : among 2 16 n ≡ true → at + 1 ≤ length bytes
-  counted-some g = let x = read-passes (among 2 16) refl bytes at n is g in omega (arith, x.inside)
-
-  pub counted-types : (c : Read) (m : ℕ) → m ≡ n → among 2 16 n ≡ true → c ≡ read_at bytes (at + 1) (times m byte) → c ≡ read_at bytes at counted_bytes
+  pub counted-types : (c : Result ℕ Fault) (m : ℕ) → m ≡ n → among 2 16 n ≡ true → c ≡ read_at bytes (at + 1) (times m byte) → c ≡ read_at bytes at counted_bytes
   counted-types c m w g e = after-byte (among 2 16) (λ n. times n byte) bytes at (at + 1) m c (read-passes (among 2 16) refl bytes at n is g) (w ∙ is) e
 
 -- A field with a label
-module _ (bytes : List ℕ) (at : ℕ) (c : Read) where
-  pub field-type : (q : ℕ) → c ≡ read_at bytes at byte → c ≡ Fault q → c ≡ read_at bytes at field
-  field-type q e f = fault-stays (length bytes) (byte (drop at bytes)) (λ t. small_name) c q e f
+module _ (bytes : List ℕ) (at : ℕ) (c : Result ℕ Fault) where
+  pub field-type : (q : Fault) → c ≡ read_at bytes at byte → c ≡ Err q → c ≡ read_at bytes at field
+  field-type q e f = fault-stays (length bytes) (byte (drop at bytes)) (λ t. small_name) c q.at e f
 
   pub field_label : (q : ℕ) → Passed any bytes at q → c ≡ read_at bytes q small_name → c ≡ read_at bytes at field
   field_label q x e = e ∙ sym (goes_on byte (λ t. small_name) bytes at q (get_or bytes at 0) (byte_reads bytes at q x))
@@ -124,48 +122,55 @@ module _ (bytes : List ℕ) (at : ℕ) (c : Read) where
 pub field-keeps : Keeps field
 field-keeps = bind_keeps byte _ byte-keeps (λ t. name-keeps false)
 
--- Arity, fields, with labels or without; past the end the arity is 0
-module _ (bytes : List ℕ) (at labels n : ℕ) (inside : at ≤ length bytes) (flag : among 0 1 labels ≡ true) (is : n ≡ get_or bytes at 0) where
-  abbrev good : ℕ → Bool
-  good = among (bit (eqb labels 1)) 16
+-- the byte of a flag is its bit
+pub flag_is : (labels : Bool) (k : ℕ) → k ≡ bool_byte labels → k ≡ bit labels
+flag_is true k e = e
+flag_is false k e = e
 
-  same_test : good (get_or bytes at 0) ≡ among labels 16 n
-  same_test = rw (flag-bit labels flag, is)
+-- Arity, fields, with labels or without; past the end the arity is 0
+module _ (bytes : List ℕ) (at : ℕ) (labels : Bool) (n : ℕ) (inside : at ≤ length bytes) (is : n ≡ get_or bytes at 0) where
+  abbrev good : ℕ → Bool
+  good = among (bit labels) 16
+
+  same_test : good (get_or bytes at 0) ≡ good n
+  same_test = ap good (sym is)
 
   -- the byte does not pass, or there is none
-  no_arity : Fault at ≡ read_at bytes at (passing good) → Fault at ≡ read_at bytes at (fields_with (eqb labels 1))
-  no_arity e = fault-stays (length bytes) (passing good (drop at bytes)) (fields_for (eqb labels 1)) (Fault at) at e refl
+  no_arity : at_fault at ≡ read_at bytes at (passing good) → at_fault at ≡ read_at bytes at (fields_with labels)
+  no_arity e = fault-stays (length bytes) (passing good (drop at bytes)) (fields_for labels) (at_fault at) at e refl
 
-  pub arity-stops : among labels 16 n ≡ false → Fault at ≡ read_at bytes at (fields_with (eqb labels 1))
+  pub arity-stops : good n ≡ false → at_fault at ≡ read_at bytes at (fields_with labels)
   arity-stops g = no_arity (go (ltb at (length bytes)) refl)
     where
-      go : (x : Bool) → ltb at (length bytes) ≡ x → Fault at ≡ read_at bytes at (passing good)
+      go : (x : Bool) → ltb at (length bytes) ≡ x → at_fault at ≡ read_at bytes at (passing good)
       go true u = passing-stops good bytes at (ltb-true at (length bytes) u) (same_test ∙ g)
       go false u = passing-ends good bytes at inside (ltb-false at (length bytes) u)
 
   -- with labels there is a byte that passes
-  pub labels-inside : among labels 16 n ≡ true → (labels ≡ 0 → ⊥) → at < length bytes
+  pub labels-inside : good n ≡ true → labels ≡ true → at < length bytes
   labels-inside fits z = go (ltb at (length bytes)) refl
     where
       go : (x : Bool) → ltb at (length bytes) ≡ x → at < length bytes
       go true u = ltb-true at (length bytes) u
-      go false u = absurd (omega (arith, z, among-is labels 16 n fits, is ∙ get_or-eq_default bytes 0 (ltb-false at (length bytes) u)))
+      go false u =
+          let one : bit labels ≡ 1 = ap bit z in
+          absurd (omega (arith, one, (among-is (bit labels) 16 n fits).0, is ∙ get_or-eq_default bytes 0 (ltb-false at (length bytes) u)))
 
-  module _ (fits : among labels 16 n ≡ true) (c : Read) (m : ℕ) (w : m ≡ n) where
+  module _ (fits : good n ≡ true) (c : Result ℕ Fault) (m : ℕ) (w : m ≡ n) where
     -- the fields, by what the flag says
-    fields_read : at < length bytes → c ≡ read_at bytes (at + 1) (fields_for (eqb labels 1) m) → c ≡ read_at bytes at (fields_with (eqb labels 1))
+    fields_read : at < length bytes → c ≡ read_at bytes (at + 1) (fields_for labels m) → c ≡ read_at bytes at (fields_with labels)
     fields_read l e =
-        let x : Passed good bytes at (at + 1) = passed good bytes at (at + 1) (At (at + 1)) inside (passing-goes good bytes at l (same_test ∙ fits)) refl in
-        after-byte good (fields_for (eqb labels 1)) bytes at (at + 1) m c x (w ∙ is) e
+        let x : Passed good bytes at (at + 1) = passed good bytes at (at + 1) (Ok (at + 1)) inside (passing-goes good bytes at l (same_test ∙ fits)) refl in
+        after-byte good (fields_for labels) bytes at (at + 1) m c x (w ∙ is) e
 
     -- the arity's own byte, and as many more
-    pub fields-plain : labels ≡ 0 → c ≡ read_at bytes at (times (m + 1) byte) → c ≡ read_at bytes at (fields_with (eqb labels 1))
+    pub fields-plain : labels ≡ false → c ≡ read_at bytes at (times (m + 1) byte) → c ≡ read_at bytes at (fields_with labels)
     fields-plain z e = go (ltb at (length bytes)) refl
       where
-        go : (x : Bool) → ltb at (length bytes) ≡ x → c ≡ read_at bytes at (fields_with (eqb labels 1))
+        go : (x : Bool) → ltb at (length bytes) ≡ x → c ≡ read_at bytes at (fields_with labels)
         go true u =
             let l = ltb-true at (length bytes) u in
-            let y = passed any bytes at (at + 1) (At (at + 1)) inside (passing-goes any bytes at l refl) refl in
+            let y = passed any bytes at (at + 1) (Ok (at + 1)) inside (passing-goes any bytes at l refl) refl in
             let r : Reached byte bytes at (at + 1) = record { value = get_or bytes at 0; reads = byte_reads bytes at (at + 1) y; onward = omega arith; inside = omega arith } in
             let k : m + 1 - 1 ≡ m = omega arith in
             fields_read l
@@ -173,30 +178,27 @@ module _ (bytes : List ℕ) (at labels n : ℕ) (inside : at ≤ length bytes) (
             ∙ times_goes byte bytes at (m + 1) (at + 1) (omega arith) r
             ∙ ap (λ (k : ℕ). read_at bytes (at + 1) (times k byte)) k
             ∙ sym (give-stays (length bytes) (times m byte (drop (at + 1) bytes)) (λ ts. (ts, [])))
-            ∙ ap (λ (l : ℕ). read_at bytes (at + 1) (fields_for (eqb l 1) m)) (sym z))
+            ∙ ap (λ (l : Bool). read_at bytes (at + 1) (fields_for l m)) (sym z))
         go false u =
             let h = ltb-false at (length bytes) u in
             e
-            ∙ sym (times-stops byte bytes at (m + 1) (Fault at) at (omega arith) (passing-ends any bytes at inside h ∙ byte_at bytes at) refl)
+            ∙ sym (times-stops byte bytes at (m + 1) (at_fault at) at (omega arith) (passing-ends any bytes at inside h ∙ byte_at bytes at) refl)
             ∙ no_arity (passing-ends good bytes at inside h)
 
-    pub fields-labelled : (labels ≡ 0 → ⊥) → c ≡ read_at bytes (at + 1) (times m field) → c ≡ read_at bytes at (fields_with (eqb labels 1))
-    fields-labelled z e =
-        let b = among-is 0 1 labels flag in
-        let one : labels ≡ 1 = omega arith in
-        fields_read (labels-inside fits z) (e ∙ fields-times m (length bytes) (drop (at + 1) bytes) ∙ ap (λ (l : ℕ). read_at bytes (at + 1) (fields_for (eqb l 1) m)) (sym one))
+    pub fields-labelled : labels ≡ true → c ≡ read_at bytes (at + 1) (times m field) → c ≡ read_at bytes at (fields_with labels)
+    fields-labelled z e = fields_read (labels-inside fits z) (e ∙ fields-times m (length bytes) (drop (at + 1) bytes) ∙ ap (λ (l : Bool). read_at bytes (at + 1) (fields_for l m)) (sym z))
 
 -- Labels or not, arity, fields
-module _ (bytes : List ℕ) (at : ℕ) (c : Read) where
-  pub fields-flag : (q : ℕ) → c ≡ read_at bytes at (within 0 1) → c ≡ Fault q → c ≡ read_at bytes at fields
-  fields-flag q e f = fault-stays (length bytes) (within 0 1 (drop at bytes)) (λ b. fields_with (eqb b 1)) c q e f ∙ ap (placed (length bytes)) (fields-is (drop at bytes))
+module _ (bytes : List ℕ) (at : ℕ) (c : Result ℕ Fault) where
+  pub fields-flag : (q : Fault) → c ≡ read_at bytes at (within 0 1) → c ≡ Err q → c ≡ read_at bytes at fields
+  fields-flag q e f = fault-stays (length bytes) (within 0 1 (drop at bytes)) (λ b. fields_with (eqb b 1)) c q.at e f ∙ ap (placed (length bytes)) (fields-is (drop at bytes))
 
   -- after the first byte the rest goes by it
   pub fields-on : (q : ℕ) → Passed (among 0 1) bytes at q → c ≡ read_at bytes q (fields_with (eqb (get_or bytes at 0) 1)) → c ≡ read_at bytes at fields
   fields-on q x e = after-byte (among 0 1) (λ b. fields_with (eqb b 1)) bytes at q (get_or bytes at 0) c x refl e ∙ ap (placed (length bytes)) (fields-is (drop at bytes))
 
 -- a constructor is its name, then what `fields` reads
-module _ (bytes : List ℕ) (at : ℕ) (c : Read) where
+module _ (bytes : List ℕ) (at : ℕ) (c : Result ℕ Fault) where
   -- what comes after a constructor's name
   abbrev after_name : Text → Reader Ctor
   after_name n = flag >>= λ labelled. within (bit labelled) 16 >>= λ k. fields_for labelled k >>= λ r. give (ctor_of n r)
@@ -213,9 +215,9 @@ module _ (bytes : List ℕ) (at : ℕ) (c : Read) where
       go (fault rest) = refl
       go (found l rest) = more l (within (bit l) 16 rest)
 
-  pub constructor-name : (q : ℕ) → c ≡ read_at bytes at big_name → c ≡ Fault q → c ≡ read_at bytes at constructor_frame
+  pub constructor-name : (q : Fault) → c ≡ read_at bytes at big_name → c ≡ Err q → c ≡ read_at bytes at constructor_frame
   unfolding constructor_frame
-  constructor-name q e f = fault-stays (length bytes) (big_name (drop at bytes)) after_name c q e f
+  constructor-name q e f = fault-stays (length bytes) (big_name (drop at bytes)) after_name c q.at e f
 
   pub constructor-fields : (q : ℕ) → Reached big_name bytes at q → c ≡ read_at bytes q fields → c ≡ read_at bytes at constructor_frame
   unfolding constructor_frame

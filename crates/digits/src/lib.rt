@@ -7,24 +7,12 @@ ghost use Rattle.std.specs.Prelude.{◌≡◌, ◌&&◌, ◌||◌, leb};
 pub fn is_hex(d: u8) -> bool
     ensures { result ≡ ((leb 48 d && leb d 57) || (leb 97 d && leb d 102)) }
 {
-    if d < 48 {
-        return false;
-    }
-    if d <= 57 {
-        return true;
-    }
-    if d < 97 {
-        return false;
-    }
-    d <= 102
+    matches!(d, b'0'..=b'9' | b'a'..=b'f')
 }
 
 // Whether a byte is one of 1 to 9.
 pub fn is_leading(d: u8) -> bool
     ensures { result ≡ (leb 49 d && leb d 57) }
 {
-    if d < 49 {
-        return false;
-    }
-    d <= 57
+    matches!(d, b'1'..=b'9')
 }

@@ -12,9 +12,9 @@ use Rattle.scope.proofs.Tests.{clash}
 use Rattle.scope.specs.Frames as scope
 use Rattle.scope.specs.Frames.{fault, found, Reader, and_then, ◌>>=◌, give, byte, passing, times, choosing, only_if}
 use Rattle.cells.proofs.Parts.{left}
-use Rattle.fields.specs.declared.Read.{Read}
-use Rattle.fields.specs.declared.Read.TheVariants.{At, Fault}
-use Rattle.fields.specs.Places.{said_read, said_of, placed, read_at}
+use Rattle.std.specs.Prelude.{Result, Ok, Err, IsErr, IsErrAnd}
+use Rattle.fields.specs.declared.Fault.{Fault}
+use Rattle.fields.specs.Places.{said_read, said_of, at_fault, placed, read_at}
 
 -- an answer is the place that was reached exactly when it says what the reader says
 said-placed : {A : Type 0} (n : ℕ) (x : scope.Read A) → said_read (placed n x) ≡ said_of n x
@@ -22,17 +22,25 @@ unfolding placed said_of
 said-placed n (fault rest) = refl
 said-placed n (found a rest) = refl
 
-same-said : (r s : Read) → said_read r ≡ said_read s → r ≡ s
-same-said (At p) (At q) e = ap (λ x. At x.1) e
-same-said (At p) (Fault q) e = let i = ap (λ x. x.0) e in clash (cc)
-same-said (Fault p) (At q) e = let i = ap (λ x. x.0) e in clash (cc)
-same-said (Fault p) (Fault q) e = ap (λ x. Fault x.1) e
+same-said : (r s : Result ℕ Fault) → said_read r ≡ said_read s → r ≡ s
+same-said (Ok p) (Ok q) e = ap (λ x. Ok x.1) e
+same-said (Ok p) (Err q) e = let i = ap (λ x. x.0) e in clash (cc)
+same-said (Err p) (Ok q) e = let i = ap (λ x. x.0) e in clash (cc)
+same-said (Err p) (Err q) e = ap (λ x. at_fault x.1) e
 
-pub tells : {A : Type 0} (n : ℕ) (x : scope.Read A) (r : Read) → r ≡ placed n x → said_read r ≡ said_of n x
+pub tells : {A : Type 0} (n : ℕ) (x : scope.Read A) (r : Result ℕ Fault) → r ≡ placed n x → said_read r ≡ said_of n x
 tells n x r e = ap said_read e ∙ said-placed n x
 
-pub told : {A : Type 0} (n : ℕ) (x : scope.Read A) (r : Read) → said_read r ≡ said_of n x → r ≡ placed n x
+pub told : {A : Type 0} (n : ℕ) (x : scope.Read A) (r : Result ℕ Fault) → said_read r ≡ said_of n x → r ≡ placed n x
 told n x r e = same-said r (placed n x) (e ∙ sym (said-placed n x))
+
+-- a fault that `?` passes on is the one that was read
+pub raised : (r : Result ℕ Fault) (e : Fault) → IsErr r × IsErrAnd r (λ y. y ≡ e) → r ≡ Err e
+raised (Ok q) e k = absurd k.1
+raised (Err f) e k = ap Err k.1
+
+pub passed_on : (r s : Result ℕ Fault) (e : Fault) → s ≡ Err e → IsErr r × IsErrAnd r (λ y. y ≡ e) → r ≡ s
+passed_on r s e h k = raised r e k ∙ sym h
 
 -- a list is another's tail
 pub data Tail : List ℕ → List ℕ → Type 0 where
@@ -138,7 +146,7 @@ choosing-keeps rs e = record { leaves = go }
     go (b ∷ bs) = at-leaves rs (λ rest. fault (b ∷ bs)) e b bs (b ∷ bs) (after same) same
 
 -- a fault stays one, whatever would be read after it
-pub fault-stays : {A B : Type 0} (n : ℕ) (x : scope.Read A) (f : A → Reader B) (c : Read) (q : ℕ) → c ≡ placed n x → c ≡ Fault q → c ≡ placed n (and_then x f)
+pub fault-stays : {A B : Type 0} (n : ℕ) (x : scope.Read A) (f : A → Reader B) (c : Result ℕ Fault) (q : ℕ) → c ≡ placed n x → c ≡ at_fault q → c ≡ placed n (and_then x f)
 unfolding placed
 fault-stays n (fault rest) f c q e h = e
 fault-stays n (found a rest) f c q e h = clash (cc)
@@ -156,11 +164,11 @@ pub record Reached {A : Type 0} (r : Reader A) (bytes : List ℕ) (at q : ℕ) :
   pub onward : at ≤ q
   pub inside : q ≤ length bytes
 
-pub reached : {A : Type 0} (r : Reader A) → Keeps r → (bytes : List ℕ) (at q : ℕ) (c : Read) → at ≤ length bytes → c ≡ read_at bytes at r → c ≡ At q → Reached r bytes at q
+pub reached : {A : Type 0} (r : Reader A) → Keeps r → (bytes : List ℕ) (at q : ℕ) (c : Result ℕ Fault) → at ≤ length bytes → c ≡ read_at bytes at r → c ≡ Ok q → Reached r bytes at q
 unfolding placed
 reached {A} r keeps bytes at q c l e h = go (r (drop at bytes)) refl (keeps.leaves (drop at bytes)) (sym h ∙ e)
   where
-    go : (x : scope.Read A) → r (drop at bytes) ≡ x → Left x (drop at bytes) → At q ≡ placed (length bytes) x → Reached r bytes at q
+    go : (x : scope.Read A) → r (drop at bytes) ≡ x → Left x (drop at bytes) → Ok q ≡ placed (length bytes) x → Reached r bytes at q
     go (fault rest) d t k = clash (cc)
     go (found a rest) d t k =
         let place : q ≡ length bytes - length rest = cc in
@@ -177,14 +185,14 @@ pub place-back : (bytes : List ℕ) (q : ℕ) → q ≤ length bytes → length 
 place-back bytes q h = omega (arith, length-drop q bytes)
 
 -- what was found, by its place
-pub found_at : {A : Type 0} (r : Reader A) (bytes : List ℕ) (at q : ℕ) (a : A) → q ≤ length bytes → r (drop at bytes) ≡ found a (drop q bytes) → At q ≡ read_at bytes at r
+pub found_at : {A : Type 0} (r : Reader A) (bytes : List ℕ) (at q : ℕ) (a : A) → q ≤ length bytes → r (drop at bytes) ≡ found a (drop q bytes) → Ok q ≡ read_at bytes at r
 unfolding placed
-found_at r bytes at q a h e = ap At (sym (place-back bytes q h)) ∙ sym (ap (placed (length bytes)) e)
+found_at r bytes at q a h e = ap Ok (sym (place-back bytes q h)) ∙ sym (ap (placed (length bytes)) e)
 
 -- what is at fault, by its place
-pub fault-at : {A : Type 0} (r : Reader A) (bytes : List ℕ) (at q : ℕ) → q ≤ length bytes → r (drop at bytes) ≡ fault (drop q bytes) → Fault q ≡ read_at bytes at r
+pub fault-at : {A : Type 0} (r : Reader A) (bytes : List ℕ) (at q : ℕ) → q ≤ length bytes → r (drop at bytes) ≡ fault (drop q bytes) → at_fault q ≡ read_at bytes at r
 unfolding placed
-fault-at r bytes at q h e = ap Fault (sym (place-back bytes q h)) ∙ sym (ap (placed (length bytes)) e)
+fault-at r bytes at q h e = ap at_fault (sym (place-back bytes q h)) ∙ sym (ap (placed (length bytes)) e)
 
 -- after what was found the next reader begins there
 pub goes_on : {A B : Type 0} (r : Reader A) (f : A → Reader B) (bytes : List ℕ) (at q : ℕ) (a : A) → r (drop at bytes) ≡ found a (drop q bytes) → read_at bytes at (r >>= f) ≡ read_at bytes q (f a)
@@ -192,13 +200,13 @@ goes_on r f bytes at q a e = ap (λ (y : scope.Read _). placed (length bytes) (a
 
 -- one byte that passes a test
 module _ (good : ℕ → Bool) (bytes : List ℕ) (at : ℕ) where
-  pub passing-ends : at ≤ length bytes → length bytes ≤ at → Fault at ≡ read_at bytes at (passing good)
+  pub passing-ends : at ≤ length bytes → length bytes ≤ at → at_fault at ≡ read_at bytes at (passing good)
   passing-ends i h = fault-at (passing good) bytes at at i (ap (passing good) (drop_of_length-le bytes h) ∙ ap fault (sym (drop_of_length-le bytes h)))
 
-  pub passing-stops : at < length bytes → good (get_or bytes at 0) ≡ false → Fault at ≡ read_at bytes at (passing good)
+  pub passing-stops : at < length bytes → good (get_or bytes at 0) ≡ false → at_fault at ≡ read_at bytes at (passing good)
   passing-stops h g = fault-at (passing good) bytes at at (omega arith) (ap (passing good) (left bytes at h) ∙ ap (λ (x : Bool). cond x (found (get_or bytes at 0) (drop (at + 1) bytes)) (fault (get_or bytes at 0 ∷ drop (at + 1) bytes))) g ∙ ap fault (sym (left bytes at h)))
 
-  pub passing-goes : at < length bytes → good (get_or bytes at 0) ≡ true → At (at + 1) ≡ read_at bytes at (passing good)
+  pub passing-goes : at < length bytes → good (get_or bytes at 0) ≡ true → Ok (at + 1) ≡ read_at bytes at (passing good)
   passing-goes h g = found_at (passing good) bytes at (at + 1) (get_or bytes at 0) (omega arith) (ap (passing good) (left bytes at h) ∙ ap (λ (x : Bool). cond x (found (get_or bytes at 0) (drop (at + 1) bytes)) (fault (get_or bytes at 0 ∷ drop (at + 1) bytes))) g)
 
 -- such a byte was read
@@ -208,15 +216,15 @@ pub record Passed (good : ℕ → Bool) (bytes : List ℕ) (at q : ℕ) : Type 0
   pub inside : at < length bytes
   pub next : q ≡ at + 1
 
-pub passed : (good : ℕ → Bool) (bytes : List ℕ) (at q : ℕ) (c : Read) → at ≤ length bytes → c ≡ read_at bytes at (passing good) → c ≡ At q → Passed good bytes at q
+pub passed : (good : ℕ → Bool) (bytes : List ℕ) (at q : ℕ) (c : Result ℕ Fault) → at ≤ length bytes → c ≡ read_at bytes at (passing good) → c ≡ Ok q → Passed good bytes at q
 passed good bytes at q c i e h = go (ltb at (length bytes)) refl (good (get_or bytes at 0)) refl
   where
     go : (x : Bool) → ltb at (length bytes) ≡ x → (y : Bool) → good (get_or bytes at 0) ≡ y → Passed good bytes at q
-    go false u y v = let w : Fault at ≡ At q = passing-ends good bytes at i (ltb-false at (length bytes) u) ∙ sym e ∙ h in clash (cc)
-    go true u false v = let w : Fault at ≡ At q = passing-stops good bytes at (ltb-true at (length bytes) u) v ∙ sym e ∙ h in clash (cc)
+    go false u y v = let w : at_fault at ≡ Ok q = passing-ends good bytes at i (ltb-false at (length bytes) u) ∙ sym e ∙ h in clash (cc)
+    go true u false v = let w : at_fault at ≡ Ok q = passing-stops good bytes at (ltb-true at (length bytes) u) v ∙ sym e ∙ h in clash (cc)
     go true u true v =
         let l = ltb-true at (length bytes) u in
-        let w : At (at + 1) ≡ At q = passing-goes good bytes at l v ∙ sym e ∙ h in
+        let w : Ok (at + 1) ≡ Ok q = passing-goes good bytes at l v ∙ sym e ∙ h in
         let n : at + 1 ≡ q = cc in
         record {
           passes = v;
@@ -227,10 +235,10 @@ passed good bytes at q c i e h = go (ltb at (length bytes)) refl (good (get_or b
 
 -- the same of a byte that is 0 past the end, where 0 does not pass
 module _ (good : ℕ → Bool) (none : good 0 ≡ false) (bytes : List ℕ) (at n : ℕ) (is : n ≡ get_or bytes at 0) where
-  pub read-stops : at ≤ length bytes → good n ≡ false → Fault at ≡ read_at bytes at (passing good)
+  pub read-stops : at ≤ length bytes → good n ≡ false → at_fault at ≡ read_at bytes at (passing good)
   read-stops i g = go (ltb at (length bytes)) refl
     where
-      go : (x : Bool) → ltb at (length bytes) ≡ x → Fault at ≡ read_at bytes at (passing good)
+      go : (x : Bool) → ltb at (length bytes) ≡ x → at_fault at ≡ read_at bytes at (passing good)
       go true u = passing-stops good bytes at (ltb-true at (length bytes) u) (ap good (sym is) ∙ g)
       go false u = passing-ends good bytes at i (ltb-false at (length bytes) u)
 
@@ -238,7 +246,7 @@ module _ (good : ℕ → Bool) (none : good 0 ≡ false) (bytes : List ℕ) (at 
   read-passes g = go (ltb at (length bytes)) refl
     where
       go : (x : Bool) → ltb at (length bytes) ≡ x → Passed good bytes at (at + 1)
-      go true u = let l = ltb-true at (length bytes) u in passed good bytes at (at + 1) (At (at + 1)) (omega arith) (passing-goes good bytes at l (ap good (sym is) ∙ g)) refl
+      go true u = let l = ltb-true at (length bytes) u in passed good bytes at (at + 1) (Ok (at + 1)) (omega arith) (passing-goes good bytes at l (ap good (sym is) ∙ g)) refl
       go false u =
           let z : n ≡ 0 = is ∙ get_or-eq_default bytes 0 (ltb-false at (length bytes) u) in
           let w : true ≡ false = sym g ∙ ap good z ∙ none in
@@ -274,10 +282,10 @@ module _ (n : ℕ) (bytes : List ℕ) (at : ℕ) (inside : at ≤ length bytes) 
   pub bytes-reads : at + n ≤ length bytes → times n byte (drop at bytes) ≡ found (take n (drop at bytes)) (drop (at + n) bytes)
   bytes-reads h = bytes-found n (drop at bytes) (omega (arith, length-drop at bytes)) ∙ ap (found (take n (drop at bytes))) (drop-drop n at bytes)
 
-  pub bytes-go : n ≤ length bytes - at → At (at + n) ≡ read_at bytes at (times n byte)
+  pub bytes-go : n ≤ length bytes - at → Ok (at + n) ≡ read_at bytes at (times n byte)
   bytes-go h = found_at (times n byte) bytes at (at + n) (take n (drop at bytes)) (omega arith) (bytes-reads (omega arith))
 
-  pub bytes-stop : length bytes - at < n → Fault (length bytes) ≡ read_at bytes at (times n byte)
+  pub bytes-stop : length bytes - at < n → at_fault (length bytes) ≡ read_at bytes at (times n byte)
   bytes-stop h = fault-at (times n byte) bytes at (length bytes) (omega arith) (bytes-short n (drop at bytes) (omega (arith, length-drop at bytes)) ∙ ap fault (sym (drop-length bytes)))
 
 -- they were read
@@ -286,20 +294,20 @@ pub record Skipped (n : ℕ) (bytes : List ℕ) (at q : ℕ) : Type 0 where
   pub next : q ≡ at + n
   pub inside : q ≤ length bytes
 
-pub skipped : (n : ℕ) (bytes : List ℕ) (at q : ℕ) (c : Read) → at ≤ length bytes → c ≡ read_at bytes at (times n byte) → c ≡ At q → Skipped n bytes at q
+pub skipped : (n : ℕ) (bytes : List ℕ) (at q : ℕ) (c : Result ℕ Fault) → at ≤ length bytes → c ≡ read_at bytes at (times n byte) → c ≡ Ok q → Skipped n bytes at q
 skipped n bytes at q c i e h = go (leb n (length bytes - at)) refl
   where
     go : (x : Bool) → leb n (length bytes - at) ≡ x → Skipped n bytes at q
-    go false u = let w : Fault (length bytes) ≡ At q = bytes-stop n bytes at i (leb-false n (length bytes - at) u) ∙ sym e ∙ h in clash (cc)
+    go false u = let w : at_fault (length bytes) ≡ Ok q = bytes-stop n bytes at i (leb-false n (length bytes - at) u) ∙ sym e ∙ h in clash (cc)
     go true u =
         let l = leb-true n (length bytes - at) u in
-        let w : At (at + n) ≡ At q = bytes-go n bytes at i l ∙ sym e ∙ h in
+        let w : Ok (at + n) ≡ Ok q = bytes-go n bytes at i l ∙ sym e ∙ h in
         let k : at + n ≡ q = cc in
         record { reads = bytes-reads n bytes at i (omega arith) ∙ ap (λ (j : ℕ). found (take n (drop at bytes)) (drop j bytes)) k; next = sym k; inside = omega arith }
 
 -- The same reader n times, one after another
 module _ {A : Type 0} (r : Reader A) (bytes : List ℕ) (p : ℕ) where
-  pub times-stops : (n : ℕ) (c : Read) (q : ℕ) → 0 < n → c ≡ read_at bytes p r → c ≡ Fault q → c ≡ read_at bytes p (times n r)
+  pub times-stops : (n : ℕ) (c : Result ℕ Fault) (q : ℕ) → 0 < n → c ≡ read_at bytes p r → c ≡ at_fault q → c ≡ read_at bytes p (times n r)
   times-stops zero c q h e f = absurd (omega arith)
   times-stops (suc n) c q h e f = fault-stays (length bytes) (r (drop p bytes)) (λ a. times n r >>= λ l. give (a ∷ l)) c q e f
 
@@ -311,15 +319,15 @@ module _ {A : Type 0} (r : Reader A) (bytes : List ℕ) (p : ℕ) where
       ∙ give-stays (length bytes) (times n r (drop q bytes)) (λ l. x.value ∷ l)
       ∙ ap (λ (k : ℕ). read_at bytes q (times k r)) m
 
-  pub times-done : (n : ℕ) → n ≤ 0 → p ≤ length bytes → At p ≡ read_at bytes p (times n r)
+  pub times-done : (n : ℕ) → n ≤ 0 → p ≤ length bytes → Ok p ≡ read_at bytes p (times n r)
   times-done zero h i = found_at (times zero r) bytes p p [] i refl
   times-done (suc n) h i = absurd (omega arith)
 
 -- a byte that passed, then a reader that goes by it
-pub after-byte : {B : Type 0} (good : ℕ → Bool) (f : ℕ → Reader B) (bytes : List ℕ) (at q n : ℕ) (c : Read) → Passed good bytes at q → n ≡ get_or bytes at 0 → c ≡ read_at bytes q (f n) → c ≡ read_at bytes at (passing good >>= f)
+pub after-byte : {B : Type 0} (good : ℕ → Bool) (f : ℕ → Reader B) (bytes : List ℕ) (at q n : ℕ) (c : Result ℕ Fault) → Passed good bytes at q → n ≡ get_or bytes at 0 → c ≡ read_at bytes q (f n) → c ≡ read_at bytes at (passing good >>= f)
 after-byte good f bytes at q n c x m e = e ∙ ap (λ (k : ℕ). read_at bytes q (f k)) m ∙ sym (goes_on (passing good) f bytes at q (get_or bytes at 0) x.reads)
 
-pub byte-passed : (bytes : List ℕ) (at q : ℕ) (c : Read) → at ≤ length bytes → c ≡ read_at bytes at byte → c ≡ At q → Passed any bytes at q
+pub byte-passed : (bytes : List ℕ) (at q : ℕ) (c : Result ℕ Fault) → at ≤ length bytes → c ≡ read_at bytes at byte → c ≡ Ok q → Passed any bytes at q
 byte-passed bytes at q c i e h = passed any bytes at q c i (e ∙ sym (byte_at bytes at)) h
 
 pub byte_reads : (bytes : List ℕ) (at q : ℕ) → Passed any bytes at q → byte (drop at bytes) ≡ found (get_or bytes at 0) (drop q bytes)
@@ -340,7 +348,3 @@ chosen rs bytes at k h e =
 -- past the end nothing is chosen
 pub chosen_none : {A : Type 0} (rs : List (Reader A)) (bytes : List ℕ) (at : ℕ) → length bytes ≤ at → choosing rs (drop at bytes) ≡ fault (drop at bytes)
 chosen_none rs bytes at h = ap (choosing rs) (drop_of_length-le bytes h) ∙ ap fault (sym (drop_of_length-le bytes h))
-
--- one number more is ruled out
-pub above : {n k : ℕ} → n ≤ k → (k ≡ n → ⊥) → suc n ≤ k
-above h e = omega arith

@@ -1,16 +1,15 @@
 -- Where a reader stands in a line's bytes: at the byte after what was read, or at the byte at fault.
-use Rattle.std.specs.Prelude.{List, Bool, true, false, ℕ, ◌-◌, length, drop}
+use Rattle.std.specs.Prelude.{List, Bool, true, false, ℕ, ◌-◌, Result, Ok, Err, length, drop}
 use Rattle.scope.specs.Lists.{Text}
 use Rattle.scope.specs.Frames as scope
 use Rattle.scope.specs.Frames.{fault, found, Reader, is_upper, is_lower, is_small, is_big, big_name, small_name, is_decimal}
 use Rattle.scope.specs.Blocks.{Step, ok, refuse}
-use Rattle.fields.specs.declared.Read.{Read}
-use Rattle.fields.specs.declared.Read.TheVariants.{At, Fault}
+use Rattle.fields.specs.declared.Fault.{Fault}
 
 -- document 01's number and values for each case: the place after what was read; 4, and the place of the byte at fault
-abbrev pub said_read : Read → Step (Unit {0}) × ℕ
-said_read (At q) = (ok tt, q)
-said_read (Fault q) = (refuse 4, q)
+abbrev pub said_read : Result ℕ Fault → Step (Unit {0}) × ℕ
+said_read (Ok q) = (ok tt, q)
+said_read (Err e) = (refuse 4, e.at)
 
 -- what a reader says, of n bytes: 4 for a fault, and the place that was reached
 unfoldable pub said_of : {A : Type 0} → ℕ → scope.Read A → Step (Unit {0}) × ℕ
@@ -21,13 +20,17 @@ said_of n (found a rest) = (ok tt, n - length rest)
 abbrev pub said_at : {A : Type 0} → List ℕ → ℕ → Reader A → Step (Unit {0}) × ℕ
 said_at bytes at r = said_of (length bytes) (r (drop at bytes))
 
+-- the byte at a place is at fault
+abbrev pub at_fault : ℕ → Result ℕ Fault
+at_fault q = Err (record { at = q })
+
 -- of n bytes so many are left: the place that was reached
-unfoldable pub placed : {A : Type 0} → ℕ → scope.Read A → Read
-placed n (fault rest) = Fault (n - length rest)
-placed n (found a rest) = At (n - length rest)
+unfoldable pub placed : {A : Type 0} → ℕ → scope.Read A → Result ℕ Fault
+placed n (fault rest) = at_fault (n - length rest)
+placed n (found a rest) = Ok (n - length rest)
 
 -- what a reader that begins at a place of the bytes reaches
-abbrev pub read_at : {A : Type 0} → List ℕ → ℕ → Reader A → Read
+abbrev pub read_at : {A : Type 0} → List ℕ → ℕ → Reader A → Result ℕ Fault
 read_at bytes at r = placed (length bytes) (r (drop at bytes))
 
 -- the bytes that may stand in a constructor's name (`big`) or in another, first or later

@@ -1,8 +1,8 @@
 -- The tests of a line before what its frame adds, branch by branch: refusals 4, 5 and 6, from the place and the room of its frame.
-use mathlib.Core.Path.{◌≡◌, sym, ap, ◌∙◌}
+use mathlib.Core.Path.{◌≡◌, refl, sym, ap, ◌∙◌}
 use mathlib.Core.Bool.{true, false}
 use mathlib.Core.List.{List, ◌∷◌}
-use Prim.Native.Nat.{ℕ, ◌+◌, ◌-◌, ◌≤◌, ◌<◌}
+use Prim.Native.Nat.{ℕ, ◌+◌, ◌-◌, ◌<◌}
 use native.Mathlib.Omega.{arith}
 use borrow.Author.Tests.{le-leb, lt-leb}
 use lib.ListN.{length, get_or, take, drop, length-drop}
@@ -11,7 +11,12 @@ use native.Mathlib.Nat.{add-zero}
 use native.Mathlib.Numerals.{add-one}
 use Rattle.scope.specs.Frames.{is_kind, frame}
 use Rattle.scope.specs.Blocks.{ok, refuse, wholly}
-use Rattle.fields.specs.declared.Read.TheVariants.{At, Fault}
+use mathlib.Core.Logic.{◌⊎◌, inl, inr}
+use Rattle.std.specs.Prelude.{Ok, Err}
+use Rattle.scope.specs.declared.kinds.FrameKind.{FrameKind}
+use Rattle.scope.specs.declared.kinds.FrameKind.TheVariants.{TypeFrame, ConstructorFrame, SubjectFrame, ClauseFrame, EndFrame}
+use Rattle.scope.specs.Numbers.{frame_byte}
+use Rattle.fields.specs.declared.Fault.{Fault}
 use Rattle.fields.specs.Places.{said_read, said_of, said_at, placed}
 use Rattle.fields.proofs.Readers.{told}
 use Rattle.frames.specs.Wholes.{whole}
@@ -45,31 +50,35 @@ module _ (bytes : List ℕ) (at : ℕ) (inside : at < length bytes) (s : State) 
       told _ _ f.end (of-line ∙ ap (λ (i : ℕ). said_at (drop at bytes) 1 (λ bs. whole (frame i bs))) (get_or-drop at bytes 0 0 ∙ ap (λ (i : ℕ). get_or bytes i 0) (add-zero at) ∙ sym kind-read)
       ∙ ap (λ (bs : List ℕ). said_of (length (drop at bytes)) (whole (frame f.kind bs))) (drop-drop 1 at bytes) ∙ ap (λ (n : ℕ). said_of n (whole (frame f.kind (drop (at + 1) bytes)))) (length-drop at bytes))
 
-  pub kind-zero : f.kind ≡ 0 → refuse 4 ≡ kind_of (checked s last (drop at bytes)) (get_or bytes at 0)
+  pub unknown : (f.kind ≡ 0) ⊎ (5 < f.kind) → refuse 4 ≡ kind_of (checked s last (drop at bytes)) (get_or bytes at 0)
   unfolding checked
-  kind-zero e = rw (starts, e)
+  unknown (inl e) = rw (starts, e)
+  unknown (inr l) = rw (starts, le-leb 1 f.kind (omega arith), lt-leb f.kind 5 l)
 
-  pub kind-over : 5 < f.kind → refuse 4 ≡ kind_of (checked s last (drop at bytes)) (get_or bytes at 0)
-  unfolding checked
-  kind-over l = rw (starts, le-leb 1 f.kind (omega arith), lt-leb f.kind 5 l)
-
-  is-kind : (f.kind ≡ 0 → ⊥) → f.kind ≤ 5 → is_kind f.kind ≡ true
-  is-kind z l = rw (le-leb 1 f.kind (omega arith), le-leb f.kind 5 l)
-
-  module _ (z : f.kind ≡ 0 → ⊥) (l : f.kind ≤ 5) where
+  module _ (known : is_kind f.kind ≡ true) where
     pub out_of_place : stands_in s.phase f.kind ≡ false → refuse 5 ≡ kind_of (checked s last (drop at bytes)) (get_or bytes at 0)
     unfolding checked
-    out_of_place a = rw (starts, is-kind z l, a)
+    out_of_place a = rw (starts, known, a)
 
     pub too_many : stands_in s.phase f.kind ≡ true → room_in s last f.kind ≡ false → refuse 6 ≡ kind_of (checked s last (drop at bytes)) (get_or bytes at 0)
     unfolding checked
-    too_many a b = rw (starts, is-kind z l, a, b)
+    too_many a b = rw (starts, known, a, b)
 
-    module _ (a : stands_in s.phase f.kind ≡ true) (b : room_in s last f.kind ≡ true) (q : ℕ) where
-      pub not-whole : f.end ≡ Fault q → refuse 4 ≡ kind_of (checked s last (drop at bytes)) (get_or bytes at 0)
+    module _ (a : stands_in s.phase f.kind ≡ true) (b : room_in s last f.kind ≡ true) where
+      pub not-whole : (e : Fault) → f.end ≡ Err e → refuse 4 ≡ kind_of (checked s last (drop at bytes)) (get_or bytes at 0)
       unfolding checked
-      not-whole e = let w : wholly (frame f.kind (drop (at + 1) bytes)) ≡ refuse 4 = whole-refused (length bytes - at) (frame f.kind (drop (at + 1) bytes)) f.end q end_read e in rw (starts, is-kind z l, a, b, w)
+      not-whole e h =
+          let w : wholly (frame f.kind (drop (at + 1) bytes)) ≡ refuse 4 = whole-refused (length bytes - at) (frame f.kind (drop (at + 1) bytes)) f.end e end_read h in
+          rw (starts, known, a, b, w)
 
-      pub whole-frame : f.end ≡ At q → ok f.kind ≡ kind_of (checked s last (drop at bytes)) (get_or bytes at 0)
+      pub whole-frame : (q : ℕ) → f.end ≡ Ok q → ok f.kind ≡ kind_of (checked s last (drop at bytes)) (get_or bytes at 0)
       unfolding checked
-      whole-frame e = let w = whole-ok (length bytes - at) (frame f.kind (drop (at + 1) bytes)) f.end q end_read e in rw (starts, is-kind z l, a, b, w.1) (ap ok kind-read)
+      whole-frame q h = let w = whole-ok (length bytes - at) (frame f.kind (drop (at + 1) bytes)) f.end q end_read h in rw (starts, known, a, b, w.1) (ap ok kind-read)
+
+-- a kind's byte is one
+pub is-kind : (k : FrameKind) → is_kind (frame_byte k) ≡ true
+is-kind TypeFrame = refl
+is-kind ConstructorFrame = refl
+is-kind SubjectFrame = refl
+is-kind ClauseFrame = refl
+is-kind EndFrame = refl

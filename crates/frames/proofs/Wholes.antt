@@ -2,14 +2,16 @@
 use mathlib.Core.Path.{◌≡◌, refl, sym, ap, ◌∙◌}
 use mathlib.Core.List.{List, [], ◌∷◌}
 use Prim.Native.Nat.{ℕ, zero, suc, ◌≤◌, ◌<◌}
+use mathlib.Core.Logic.{◌⊎◌}
+use native.Mathlib.Omega.{arith}
 use lib.ListN.{length, drop, drop_of_length-le}
 use Rattle.scope.proofs.Tests.{clash}
 use Rattle.scope.specs.Frames as scope
 use Rattle.scope.specs.Frames.{fault, found, Reader, give, byte, type_frame, constructor_frame, patterns, type_of, constructor_of, subject_of, clause_of, end, frame}
 use Rattle.scope.specs.Blocks.{ok, refuse, wholly}
-use Rattle.fields.specs.declared.Read.{Read}
-use Rattle.fields.specs.declared.Read.TheVariants.{At, Fault}
-use Rattle.fields.specs.Places.{placed, read_at}
+use Rattle.fields.specs.declared.Fault.{Fault}
+use Rattle.std.specs.Prelude.{Result, Ok, Err}
+use Rattle.fields.specs.Places.{at_fault, placed, read_at}
 use Rattle.frames.specs.Wholes.{whole}
 use Rattle.fields.proofs.Readers.{Keeps, give-keeps, fault-keeps, byte-keeps, bind_keeps, give-stays, place-back, found_at, fault-at, Reached}
 use Rattle.declarations.proofs.Shapes.{type-keeps, constructor-keeps}
@@ -17,7 +19,7 @@ use Rattle.clause.proofs.Written.{patterns_keep}
 use Rattle.cells.proofs.Parts.{left}
 
 -- What comes after the kind
-module _ (bytes : List ℕ) (at : ℕ) (c : Read) where
+module _ (bytes : List ℕ) (at : ℕ) (c : Result ℕ Fault) where
   pub held-type : c ≡ read_at bytes at type_frame → c ≡ read_at bytes at (frame 1)
   unfolding frame
   held-type e = e ∙ sym (give-stays (length bytes) (type_frame (drop at bytes)) type_of)
@@ -34,20 +36,20 @@ module _ (bytes : List ℕ) (at : ℕ) (c : Read) where
   unfolding frame
   held-clause e = e ∙ sym (give-stays (length bytes) (patterns 1 (drop at bytes)) clause_of)
 
-pub held-end : (bytes : List ℕ) (at : ℕ) → at ≤ length bytes → At at ≡ read_at bytes at (frame 5)
+pub held-end : (bytes : List ℕ) (at : ℕ) → at ≤ length bytes → Ok at ≡ read_at bytes at (frame 5)
 unfolding frame
 held-end bytes at i = found_at (give end) bytes at at end i refl
 
 -- no frame is of another kind
-pub held_none : (bytes : List ℕ) (at k : ℕ) → at ≤ length bytes → (k ≡ 1 → ⊥) → (k ≡ 2 → ⊥) → (k ≡ 3 → ⊥) → (k ≡ 4 → ⊥) → (k ≡ 5 → ⊥) → Fault at ≡ read_at bytes at (frame k)
+pub held_none : (bytes : List ℕ) (at k : ℕ) → at ≤ length bytes → (k ≡ 0) ⊎ (5 < k) → at_fault at ≡ read_at bytes at (frame k)
 unfolding frame
-held_none bytes at zero i a b c d e = fault-at (frame 0) bytes at at i refl
-held_none bytes at (suc zero) i a b c d e = absurd (a refl)
-held_none bytes at (suc (suc zero)) i a b c d e = absurd (b refl)
-held_none bytes at (suc (suc (suc zero))) i a b c d e = absurd (c refl)
-held_none bytes at (suc (suc (suc (suc zero)))) i a b c d e = absurd (d refl)
-held_none bytes at (suc (suc (suc (suc (suc zero))))) i a b c d e = absurd (e refl)
-held_none bytes at (suc (suc (suc (suc (suc (suc k)))))) i a b c d e = fault-at (frame (suc (suc (suc (suc (suc (suc k))))))) bytes at at i refl
+held_none bytes at zero i n = fault-at (frame 0) bytes at at i refl
+held_none bytes at (suc zero) i n = absurd (omega (arith, n))
+held_none bytes at (suc (suc zero)) i n = absurd (omega (arith, n))
+held_none bytes at (suc (suc (suc zero))) i n = absurd (omega (arith, n))
+held_none bytes at (suc (suc (suc (suc zero)))) i n = absurd (omega (arith, n))
+held_none bytes at (suc (suc (suc (suc (suc zero))))) i n = absurd (omega (arith, n))
+held_none bytes at (suc (suc (suc (suc (suc (suc k)))))) i n = fault-at (frame (suc (suc (suc (suc (suc (suc k))))))) bytes at at i refl
 
 -- every frame's reader leaves a tail of what it got
 pub frame-keeps : (k : ℕ) → Keeps (frame k)
@@ -61,38 +63,38 @@ frame-keeps (suc (suc (suc (suc (suc zero))))) = give-keeps _
 frame-keeps (suc (suc (suc (suc (suc (suc k)))))) = fault-keeps
 
 -- a fault stays one
-pub whole-fault : {A : Type 0} (n : ℕ) (x : scope.Read A) (c : Read) (q : ℕ) → c ≡ placed n x → c ≡ Fault q → c ≡ placed n (whole x)
+pub whole-fault : {A : Type 0} (n : ℕ) (x : scope.Read A) (c : Result ℕ Fault) (q : Fault) → c ≡ placed n x → c ≡ Err q → c ≡ placed n (whole x)
 unfolding placed whole
 whole-fault n (fault rest) c q e h = e
 whole-fault n (found a rest) c q e h = clash (cc)
 
 -- What was found, and whether bytes are over
 module _ {A : Type 0} (r : Reader A) (bytes : List ℕ) (at q : ℕ) (x : Reached r bytes at q) where
-  pub whole-over : q < length bytes → Fault q ≡ read_at bytes at (λ bs. whole (r bs))
+  pub whole-over : q < length bytes → at_fault q ≡ read_at bytes at (λ bs. whole (r bs))
   unfolding placed whole
   whole-over h =
-      ap Fault (sym (place-back bytes q x.inside))
+      ap at_fault (sym (place-back bytes q x.inside))
       ∙ ap (λ (z : List ℕ). placed {A = A} (length bytes) (fault z)) (left bytes q h)
       ∙ sym (ap (λ (z : List ℕ). placed (length bytes) (whole (found x.value z))) (left bytes q h))
       ∙ sym (ap (λ (y : scope.Read A). placed (length bytes) (whole y)) x.reads)
 
-  pub whole-done : length bytes ≤ q → At q ≡ read_at bytes at (λ bs. whole (r bs))
+  pub whole-done : length bytes ≤ q → Ok q ≡ read_at bytes at (λ bs. whole (r bs))
   unfolding placed whole
   whole-done h =
-      ap At (sym (place-back bytes q x.inside))
+      ap Ok (sym (place-back bytes q x.inside))
       ∙ ap (λ (z : List ℕ). placed (length bytes) (found x.value z)) (drop_of_length-le bytes h)
       ∙ sym (ap (λ (z : List ℕ). placed (length bytes) (whole (found x.value z))) (drop_of_length-le bytes h))
       ∙ sym (ap (λ (y : scope.Read A). placed (length bytes) (whole y)) x.reads)
 
 -- What a caller learns of a whole frame
 module _ {A : Type 0} (n : ℕ) where
-  pub whole-ok : (x : scope.Read A) (c : Read) (q : ℕ) → c ≡ placed n (whole x) → c ≡ At q → (a : A) × (wholly x ≡ ok a)
+  pub whole-ok : (x : scope.Read A) (c : Result ℕ Fault) (q : ℕ) → c ≡ placed n (whole x) → c ≡ Ok q → (a : A) × (wholly x ≡ ok a)
   unfolding placed whole
   whole-ok (fault rest) c q e h = clash (cc)
   whole-ok (found a []) c q e h = (a, refl)
   whole-ok (found a (b ∷ rest)) c q e h = clash (cc)
 
-  pub whole-refused : (x : scope.Read A) (c : Read) (q : ℕ) → c ≡ placed n (whole x) → c ≡ Fault q → wholly x ≡ refuse 4
+  pub whole-refused : (x : scope.Read A) (c : Result ℕ Fault) (q : Fault) → c ≡ placed n (whole x) → c ≡ Err q → wholly x ≡ refuse 4
   unfolding placed whole
   whole-refused (fault rest) c q e h = refl
   whole-refused (found a []) c q e h = clash (cc)

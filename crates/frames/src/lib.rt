@@ -8,8 +8,8 @@ ghost use Rattle.frames.specs.Wholes.{whole};
 ghost use Rattle.frames.specs.Lines.{said_framed, frame_of};
 
 use crate::shape::frame;
-use cells::at8;
-use fields::Read;
+use cells::get;
+use fields::Fault;
 
 pub mod admitting;
 pub mod shape;
@@ -33,7 +33,7 @@ impl<'a> Reader<'a> {
     fn kind(self) -> u8
         ensures { result ≡ get_or self.entry.line.now self.entry.at 0 }
     {
-        at8(self.line, self.at)
+        get(self.line, self.at)
     }
 
     // At the next byte.
@@ -48,7 +48,7 @@ impl<'a> Reader<'a> {
     }
 
     // What comes after the kind of a frame, from the place to the line's end.
-    fn rest(self, kind: u8) -> Read
+    fn rest(self, kind: u8) -> Result<usize, Fault>
         requires at_in_bounds { self.at ≤ length self.line.now }
         requires line_len_bound { length self.line.now ≤ 65536 }
         ensures { said_read result ≡ said_at self.entry.line.now self.entry.at (λ bs. whole (frame kind bs)) }
@@ -58,10 +58,10 @@ impl<'a> Reader<'a> {
 }
 
 // A frame as read: its kind, and the place that was reached or the place at fault.
-#[derive(Drop)]
+#[derive(Clone, Copy, Debug, PartialEq, Eq)]
 pub struct Framed {
     pub kind: u8,
-    pub end: Read,
+    pub end: Result<usize, Fault>,
 }
 
 // The frame that a line holds.

@@ -6,36 +6,34 @@ ghost use Rattle.frames.specs.Wholes.{whole};
 
 use clause::patterns;
 use declarations::{constructor_frame, type_frame};
-use fields::{Read, byte};
+use fields::{Fault, byte};
+use scope::kinds::FrameKind;
 
 // What comes after the kind of a frame.
-fn held(bytes: &[u8], at: usize, kind: u8) -> Read
+fn held(bytes: &[u8], at: usize, kind: u8) -> Result<usize, Fault>
     requires at_in_bounds { at ≤ length bytes.now }
     requires bytes_len_bound { length bytes.now ≤ 65536 }
     ensures { result ≡ read_at bytes.now at (frame kind) }
 {
-    match kind {
-        1 => type_frame(bytes, at),
-        2 => constructor_frame(bytes, at),
-        3 => byte(bytes, at),
-        4 => patterns(bytes, at, 1),
-        5 => Read::At(at),
-        _ => Read::Fault(at),
+    match FrameKind::try_from(kind) {
+        Ok(FrameKind::TypeFrame) => type_frame(bytes, at),
+        Ok(FrameKind::ConstructorFrame) => constructor_frame(bytes, at),
+        Ok(FrameKind::SubjectFrame) => byte(bytes, at),
+        Ok(FrameKind::ClauseFrame) => patterns(bytes, at, 1),
+        Ok(FrameKind::EndFrame) => Ok(at),
+        Err(_) => Err(Fault { at }),
     }
 }
 
 // A frame of this kind, whole: no fault, and no bytes over.
-pub fn frame(bytes: &[u8], at: usize, kind: u8) -> Read
+pub fn frame(bytes: &[u8], at: usize, kind: u8) -> Result<usize, Fault>
     requires at_in_bounds { at ≤ length bytes.now }
     requires bytes_len_bound { length bytes.now ≤ 65536 }
     ensures { said_read result ≡ said_at bytes.now at (λ bs. whole (frame kind bs)) }
 {
-    let r = held(bytes, at, kind);
-    let Read::At(to) = r else {
-        return r;
-    };
+    let to = held(bytes, at, kind)?;
     if to < bytes.len() {
-        return Read::Fault(to);
+        return Err(Fault { at: to });
     }
-    r
+    Ok(to)
 }

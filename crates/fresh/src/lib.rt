@@ -6,7 +6,8 @@ ghost use Rattle.scope.specs.Lists.{any, twice, same as same_text};
 ghost use Rattle.layout.specs.Types.{text_at};
 ghost use Rattle.fresh.specs.Fresh.{name_there, label_texts, labels_new, is_fresh_in};
 
-use cells::{at8, at16, wide8, wide16};
+use cells::get;
+use layout::lent::Types;
 use layout::{after_name, name_at};
 use names::same;
 
@@ -18,18 +19,11 @@ fn same_at(bytes: &[u8], p: usize, q: usize) -> bool
 }
 
 // Whether one of the first n names from `from` on is the one at `at`.
-fn name_there(bytes: &[u8], at: usize, names: &[u16], from: usize, n: usize) -> bool
+fn name_there(types: &Types<'_>, at: usize, from: usize, n: usize) -> bool
     requires { from + n < 2 ^ 63 }
-    ensures { result ≡ name_there bytes.now at names.now from n }
+    ensures { result ≡ name_there types.now.bytes.now at types.now.names.now from n }
 {
-    let mut i = 0;
-    while i < n {
-        if same_at(bytes, at, wide16(at16(names, from + i))) {
-            return true;
-        }
-        i += 1;
-    }
-    false
+    (from..from + n).any(|i| same_at(types.bytes, at, types.name(i)))
 }
 
 // Whether one of the n fields' labels from `p` on is the one at `at`.
@@ -39,13 +33,11 @@ fn label_there(bytes: &[u8], at: usize, p: usize, n: usize) -> bool
     ensures { result ≡ any (same_text (text_at bytes.now at)) (label_texts bytes.now p n) }
 {
     let mut q = p;
-    let mut left = n;
-    while 0 < left {
+    for _ in 0..n {
         if same_at(bytes, at, q + 1) {
             return true;
         }
         q = after_name(bytes, q + 1);
-        left -= 1;
     }
     false
 }
@@ -57,10 +49,8 @@ fn labels_twice(bytes: &[u8], p: usize, n: usize) -> bool
     ensures { result ≡ twice (label_texts bytes.now p n) }
 {
     let mut q = p;
-    let mut more = n;
-    while 0 < more {
+    for more in (0..n).rev() {
         let next = after_name(bytes, q + 1);
-        more -= 1;
         if label_there(bytes, q + 1, next, more) {
             return true;
         }
@@ -70,24 +60,21 @@ fn labels_twice(bytes: &[u8], p: usize, n: usize) -> bool
 }
 
 // Whether no label is there twice, from the labels' flag on.
+#[tactic(auto, unfolding(crate::specs::Fresh::labels_new))]
 fn labels_new(bytes: &[u8], flag: usize) -> bool
     requires { flag < 2 ^ 33 }
     ensures { result ≡ labels_new bytes.now flag }
 {
-    if at8(bytes, flag) == 0 {
-        return true;
-    }
-    !labels_twice(bytes, flag + 2, wide8(at8(bytes, flag + 1)))
+    get(bytes, flag) == 0 || !labels_twice(bytes, flag + 2, usize::from(get(bytes, flag + 1)))
 }
 
 // Whether the constructor's name, at `at`, is new in the type t, and no label is there twice.
-pub fn is_fresh(bytes: &[u8], at: usize, names: &[u16], counts: &[u8], t: usize) -> bool
+#[tactic(auto, unfolding(crate::specs::Fresh::is_fresh_in))]
+pub fn is_fresh(types: &Types<'_>, at: usize, t: usize) -> bool
     requires at_bound { at < 2 ^ 32 }
     requires t_bound { t < 64 }
-    ensures { result ≡ is_fresh_in bytes.now at names.now counts.now t }
+    ensures { result ≡ is_fresh_in types.now.bytes.now at types.now.names.now types.now.counts.now t }
 {
-    if name_there(bytes, at, names, 32 * t, wide8(at8(counts, t))) {
-        return false;
-    }
-    labels_new(bytes, after_name(bytes, at))
+    let n = usize::from(get(types.counts, t));
+    !name_there(types, at, 32 * t, n) && labels_new(types.bytes, after_name(types.bytes, at))
 }

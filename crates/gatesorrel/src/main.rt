@@ -1,18 +1,13 @@
 // Standard input to standard output: the report, or `refused N line K`.
 #![tactic(auto)]
 
-// The rest of the input, read and left; false at its end.
-fn more() -> bool {
-    let mut rest = [0u8; 4096];
-    let n = io::read_full(0, &mut rest);
-    n == 4096
-}
-
 // The input read to its end.
 fn drain() {
-    let mut turns = u64::MAX;
-    while 0 < turns && more() {
-        turns -= 1;
+    let mut rest = [0u8; 4096];
+    for _ in 0..u64::MAX {
+        if io::read_full(0, &mut rest) < 4096 {
+            return;
+        }
     }
 }
 

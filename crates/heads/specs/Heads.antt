@@ -1,8 +1,10 @@
--- Two nodes compared by their numbers.
-use Rattle.std.specs.Prelude.{cond, ℕ, eqb, ltb}
-use Rattle.heads.specs.declared.Alike.{Alike}
-use Rattle.heads.specs.declared.Alike.TheVariants.{Same, Other, Literals}
+-- What a node's number says.
+use Rattle.std.specs.Prelude.{◌≡◌, ℕ, ◌+◌, ◌<◌}
+use Rattle.heads.specs.declared.Node.{Node}
+use Rattle.heads.specs.declared.Node.TheVariants.{Wildcard, Constructor, Literal}
 
--- a constructor is the same number; a literal is no constructor
-unfoldable pub alike_of : ℕ → ℕ → Alike
-alike_of h key = cond (ltb h 32768) (cond (eqb h key) Same Other) (cond (ltb key 32768) Other Literals)
+-- what a number says of its node: 0 is a wildcard, a constructor is itself, and from 32,768 on stand the literals
+abbrev pub SaysNode : ℕ → Node → Type 0
+SaysNode h Wildcard = h ≡ 0
+SaysNode h (Constructor c) = (h ≡ c) × (0 < c) × (c < 32768)
+SaysNode h (Literal p) = h ≡ 32768 + p

@@ -2,29 +2,34 @@
 #![tactic(auto)]
 
 ghost use Rattle.std.specs.Prelude.{◌≡◌, ◌-◌, ◌%◌, ◌<◌};
-ghost use Rattle.heads.specs.Heads.{alike_of};
+ghost use Rattle.heads.specs.Heads.{SaysNode};
 
-#[derive(Drop)]
-pub enum Alike {
-    Same,
-    Other,
-    Literals,
+// The number of a wildcard.
+pub const WILDCARD: u16 = 0;
+
+// The first number of a literal.
+pub const LITERALS: u16 = 32768;
+
+// What stands at a node.
+#[derive(Clone, Copy, Debug, PartialEq, Eq)]
+pub enum Node {
+    Wildcard,
+    // a constructor, by its own number
+    Constructor(u16),
+    // a literal, by its place among the bytes
+    Literal(u16),
 }
 
-// Whether a node is the key, as far as their numbers say: two literals are to be compared by their bytes.
-pub fn compare(h: u16, key: u16) -> Alike
-    ensures { result ≡ alike_of h key }
-{
-    if h < 32768 {
-        if h == key {
-            return Alike::Same;
+impl From<u16> for Node {
+    ghost from_gives = { SaysNode };
+
+    fn from(number: u16) -> Node {
+        match number {
+            WILDCARD => Node::Wildcard,
+            1..LITERALS => Node::Constructor(number),
+            _ => Node::Literal(number - LITERALS),
         }
-        return Alike::Other;
     }
-    if key < 32768 {
-        return Alike::Other;
-    }
-    Alike::Literals
 }
 
 // The first constructor of the type of constructor h.

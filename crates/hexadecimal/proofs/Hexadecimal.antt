@@ -1,46 +1,21 @@
 -- A line's characters: where the line ends, what its digits say, what refusal 3 tests. By the definitions alone.
 use mathlib.Core.Path.{◌≡◌, refl, sym, ap, ◌∙◌}
 use mathlib.Core.List.{List, [], ◌∷◌}
-use mathlib.Core.Bool.{Bool, true, false, cond, ◌&&◌, ◌||◌}
-use mathlib.Core.Logic.{◌⊎◌, inl, inr}
+use mathlib.Core.Bool.{Bool, true, false, cond, ◌&&◌}
 use Prim.Native.Nat.{ℕ, zero, suc, ◌+◌, ◌-◌, ◌*◌, ◌/◌, ◌%◌, ◌≤◌, ◌<◌}
 use native.Mathlib.Omega.{arith}
 use lib.ListN.{length, get_or, take, drop, set, length-drop, length-take}
 use lib.Seq.{drop-drop, take_all, sets}
 use Rattle.cells.proofs.Laws.{sets-next}
 use lib.Dec.{eqb, leb, ltb}
-use borrow.Author.Tests.{eq-eqb, ne_eqb, eqb-true, ltb-true, ltb-false, leb-true, le-leb, lt-leb}
-use Rattle.scope.proofs.Tests.{both, among-is}
-use Rattle.scope.specs.Limits.{max_digits}
-use Rattle.scope.specs.Lists.{all, among}
+use borrow.Author.Tests.{eqb-true, ltb-true, ltb-false, leb-true}
+use Rattle.std.specs.Prelude.{Option, Some, None}
+use Rattle.std.specs.List.{position_or_len}
+use Rattle.std.proofs.lemmas.List.Recursion.{is_position_or_len}
+use Rattle.scope.proofs.Tests.{both, clash}
+use Rattle.scope.specs.Lists.{all}
 use Rattle.scope.specs.Lines.{ended, cut, into_first, lines, is_hex, hex, unhex, is_line}
-use Rattle.cells.proofs.Parts.{left}
 use Rattle.hexadecimal.specs.Digits.{digits, TakenLine, RefusedLine}
-
--- a digit is one of 0 to 9 or one of a to f
-pub hex-cases : (d : ℕ) → is_hex d ≡ true → ((48 ≤ d) × (d ≤ 57)) ⊎ ((97 ≤ d) × (d ≤ 102))
-unfolding is_hex
-hex-cases d h = go (among 48 57 d) refl h
-  where
-    go : (x : Bool) → among 48 57 d ≡ x → x || among 97 102 d ≡ true → ((48 ≤ d) × (d ≤ 57)) ⊎ ((97 ≤ d) × (d ≤ 102))
-    go true e k = inl (among-is 48 57 d e)
-    go false e k = inr (among-is 97 102 d k)
-
-pub hex-digit : (d : ℕ) → d ≤ 57 → hex d ≡ d - 48
-unfolding hex
-hex-digit d h = rw (le-leb d 57 h)
-
-pub hex-letter : (d : ℕ) → 57 < d → hex d ≡ d - 87
-unfolding hex
-hex-letter d h = rw (lt-leb d 57 h)
-
--- at a line feed no character is left before it
-pub digits-stops : (s : List ℕ) (i : ℕ) → i < length s → get_or s i 0 ≡ 10 → digits (drop i s) ≡ []
-digits-stops s i h e = rw (left s i h, eq-eqb (get_or s i 0) 10 e)
-
--- any other character is one of those before it
-pub digits-goes : (s : List ℕ) (i : ℕ) → i < length s → (get_or s i 0 ≡ 10 → ⊥) → length (digits (drop i s)) ≡ suc (length (digits (drop (i + 1) s)))
-digits-goes s i h e = rw (left s i h, ne_eqb (get_or s i 0) 10 e)
 
 -- they are as many as there are, and begin what is left
 pub digits-take : (s : List ℕ) → take (length (digits s)) s ≡ digits s
@@ -53,6 +28,36 @@ digits-take (b ∷ s) = go (eqb b 10) (digits-take s)
 
 pub digits-most : (s : List ℕ) → length (digits s) ≤ length s
 digits-most s = omega (arith, ap length (digits-take s), length-take (length (digits s)) s)
+
+-- they are as many as the place of the first line feed says
+digits-place : (s : List ℕ) → length (digits s) ≡ position_or_len (λ b. eqb b 10) s
+digits-place = is_position_or_len (λ s. length (digits s)) (λ b. eqb b 10) refl step
+  where
+    go : (x : Bool) (b : ℕ) (s : List ℕ) → length (cond x [] (b ∷ s)) ≡ cond x 0 (1 + length s)
+    go true b s = refl
+    go false b s = omega arith
+
+    step : (b : ℕ) (s : List ℕ) → length (digits (b ∷ s)) ≡ cond (eqb b 10) 0 (1 + length (digits s))
+    step b s = go (eqb b 10) b (digits s)
+
+-- where the first line feed is sought
+module _ (s : List ℕ) (r : Option ℕ) (sought : r ≡ cond (ltb (position_or_len (λ b. eqb b 10) s) (length s)) (Some (position_or_len (λ b. eqb b 10) s)) None) where
+  abbrev place : ℕ
+  place = position_or_len (λ b. eqb b 10) s
+
+  pub feed-found : (n : ℕ) → r ≡ Some n → n ≡ length (digits s)
+  feed-found n h = go (ltb place (length s)) (sym h ∙ sought) ∙ sym (digits-place s)
+    where
+      go : (x : Bool) → Some n ≡ cond x (Some place) None → n ≡ place
+      go true e = cc
+      go false e = clash (cc)
+
+  pub feed_none : r ≡ None → length s ≡ length (digits s)
+  feed_none h = go (ltb place (length s)) refl (sym h ∙ sought)
+    where
+      go : (x : Bool) → ltb place (length s) ≡ x → None ≡ cond x (Some place) None → length s ≡ length (digits s)
+      go true u e = clash (cc)
+      go false u e = omega (arith, ltb-false place (length s) u, digits-place s, digits-most s)
 
 -- without a line feed a file that is not empty is one cut line
 pub lines_cut : (s : List ℕ) → 0 < length s → length s ≤ length (digits s) → lines s ≡ cut s ∷ []
@@ -118,25 +123,6 @@ decode-next ds d at k b h e =
 -- all bytes are written
 pub decode-done : (ds d : List ℕ) (at k : ℕ) → length ds / 2 ≤ k → sets d at (take k (unhex ds)) ≡ sets d at (unhex ds)
 decode-done ds d at k h = ap (sets d at) (take_all k (unhex ds) (omega (arith, length-unhex ds)))
-
--- refusal 3's tests of the characters between two places: a line feed after them, their number, their digits
-module _ (file : List ℕ) (from end : ℕ) (on : from ≤ end) (inside : end ≤ length file) where
-  abbrev part : List ℕ
-  part = take (end - from) (drop from file)
-
-  are : length part ≡ end - from
-  are = omega (arith, length-take (end - from) (drop from file), length-drop from file)
-
-  pub no_feed : false ≡ ltb end (length file) → false ≡ (ltb end (length file) && is_line (ended part))
-  no_feed h = rw (← h)
-
-  pub no_length : true ≡ ltb end (length file) → false ≡ (ltb 0 (end - from) && eqb ((end - from) % 2) 0 && leb (end - from) max_digits) → false ≡ (ltb end (length file) && is_line (ended part))
-  unfolding is_line
-  no_length h k = rw (← h, are, ← k)
-
-  pub hex-line : true ≡ ltb end (length file) → true ≡ (ltb 0 (end - from) && eqb ((end - from) % 2) 0 && leb (end - from) max_digits) → all is_hex part ≡ (ltb end (length file) && is_line (ended part))
-  unfolding is_line
-  hex-line h k = rw (← h, are, ← k)
 
 -- The line that begins at `from` and whose characters go up to `end`
 module _ (file : List ℕ) (from end : ℕ) (inside : from < length file) (ends : end ≡ from + length (digits (drop from file))) where

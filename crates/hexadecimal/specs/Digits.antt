@@ -1,11 +1,11 @@
 -- The line that a file begins with, and what reading one does to the decoded bytes.
-use Rattle.std.specs.Prelude.{◌≡◌, List, [], ◌∷◌, true, false, cond, ℕ, ◌+◌, ◌-◌, ◌*◌, ◌≤◌, ◌<◌, length, drop, eqb}
+use Rattle.std.specs.Prelude.{◌≡◌, List, [], ◌∷◌, true, false, cond, ℕ, ◌+◌, ◌-◌, ◌*◌, ◌≤◌, ◌<◌, Result, Ok, Err, length, drop, eqb}
 use Rattle.std.proofs.lemmas.List.Edits.{sets}
 use Rattle.scope.specs.Lines as scope
 use Rattle.scope.specs.Lines.{ended, lines, unhex, is_line}
 use Rattle.scope.specs.Blocks.{Step, ok, refuse}
 use Rattle.hexadecimal.specs.declared.Line.{Line}
-use Rattle.hexadecimal.specs.declared.Line.TheVariants.{Good, Bad}
+use Rattle.hexadecimal.specs.declared.BadLine.{BadLine}
 
 -- the characters before the first line feed
 abbrev pub digits : List ℕ → List ℕ
@@ -13,9 +13,9 @@ digits [] = []
 digits (b ∷ bs) = cond (eqb b 10) [] (b ∷ digits bs)
 
 -- document 01's number and values for each case: the next line's place, and the place after the bytes; 3
-abbrev pub said_line : Line → Step (ℕ × ℕ)
-said_line (Good next to) = ok (next, to)
-said_line Bad = refuse 3
+abbrev pub said_line : Result Line BadLine → Step (ℕ × ℕ)
+said_line (Ok l) = ok (l.next, l.to)
+said_line (Err e) = refuse 3
 
 -- the file's line at `from` is not 3; the next one begins at `next`; its bytes are written from `at` to `to`
 pub record TakenLine (file : List ℕ) (from : ℕ) (before : List ℕ) (at next to : ℕ) (after : List ℕ) : Type 0 where

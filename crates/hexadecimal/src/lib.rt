@@ -10,22 +10,25 @@ ghost use Rattle.hexadecimal.specs.Digits.{digits, said_line, Lined};
 use lengths::is_line_length;
 use letters::all_digits;
 
-#[derive(Drop)]
-pub enum Line {
-    Good { next: usize, to: usize },
-    Bad,
+// A line as read: the place of the next one, and the place after its bytes.
+#[derive(Clone, Copy, Debug, PartialEq, Eq)]
+pub struct Line {
+    pub next: usize,
+    pub to: usize,
 }
 
+// 3: no line begins there.
+#[derive(Clone, Copy, Debug, PartialEq, Eq)]
+pub struct BadLine;
+
 // The value of a digit.
+#[tactic(auto, unfolding(scope::specs::Lines::is_hex, scope::specs::Lines::hex))]
 fn hex(d: u8) -> u8
     requires { is_hex d ≡ true }
     ensures value { result ≡ hex d }
     ensures upper_bound { result < 16 }
 {
-    if d <= 57 {
-        return d - 48;
-    }
-    d - 87
+    if d <= b'9' { d - b'0' } else { d - b'a' + 10 }
 }
 
 // The byte that two digits say.
@@ -42,28 +45,19 @@ fn line_end(file: &[u8], from: usize) -> usize
     requires { from ≤ length file.now }
     ensures { result ≡ from + length (digits (drop from file.now)) }
 {
-    let mut i = from;
-    while i < file.len() {
-        if file[i] == 10 {
-            return i;
-        }
-        i += 1;
+    match file[from..].iter().position(|&b| b == b'\n') {
+        Some(n) => from + n,
+        None => file.len(),
     }
-    i
 }
 
 // Whether the characters from `from` to `end`, where a line feed or the file's end is, are a line.
+#[tactic(auto, unfolding(scope::specs::Lines::is_line))]
 fn is_line(file: &[u8], from: usize, end: usize) -> bool
     requires { (from ≤ end) × (end ≤ length file.now) }
     ensures { result ≡ (ltb end (length file.now) && is_line (ended (take (end - from) (drop from file.now)))) }
 {
-    if file.len() <= end {
-        return false;
-    }
-    if !is_line_length(end - from) {
-        return false;
-    }
-    all_digits(true, &file[from..end])
+    end < file.len() && is_line_length(end - from) && all_digits(true, &file[from..end])
 }
 
 // The bytes that the digits say, written to out from `at` on; the place after them.
@@ -74,16 +68,14 @@ fn decode(ds: &[u8], out: &mut [u8], at: usize) -> usize
     ensures out_after { out.new ≡ sets out.old at (unhex ds.now) }
 {
     let n = ds.len() / 2;
-    let mut k = 0;
-    while k < n {
+    for k in 0..n {
         out[at + k] = byte_of(ds[2 * k], ds[2 * k + 1]);
-        k += 1;
     }
     at + n
 }
 
 // The line that begins at `from`: its bytes, written to out from `at` on. A line that is refused writes nothing.
-pub fn read_line(file: &[u8], from: usize, out: &mut [u8], at: usize) -> Line
+pub fn read_line(file: &[u8], from: usize, out: &mut [u8], at: usize) -> Result<Line, BadLine>
     requires from_in_bounds { from < length file.now }
     requires at_bound { 2 * at ≤ from }
     requires file_len_bound { length file.now ≤ 2 * length out.old }
@@ -91,8 +83,8 @@ pub fn read_line(file: &[u8], from: usize, out: &mut [u8], at: usize) -> Line
 {
     let end = line_end(file, from);
     if !is_line(file, from, end) {
-        return Line::Bad;
+        return Err(BadLine);
     }
     let to = decode(&file[from..end], out, at);
-    Line::Good { next: end + 1, to }
+    Ok(Line { next: end + 1, to })
 }

@@ -15,8 +15,8 @@ use Rattle.scope.specs.Driver.{judged}
 use Rattle.scope.proofs.Tests.{clash}
 use Rattle.scope.proofs.Driver.{judged-snoc}
 use Rattle.scope.specs.Blocks.{ok, refuse}
-use Rattle.judge.specs.declared.Judged.{Judged}
-use Rattle.judge.specs.declared.Judged.TheVariants.{Done, Over}
+use Rattle.std.specs.Prelude.{Result, Ok, Err, IsErr}
+use Rattle.outcomes.specs.declared.TooMuch.{TooMuch}
 use Rattle.walks.specs.Limits.{within}
 use Rattle.judge.specs.Driver.{said_judged, clause_walk, judged_to, answered, written, Judges, JudgesAll}
 use Rattle.walks.specs.Bridge.{Says, SayRows, Holding}
@@ -50,11 +50,16 @@ module _ (bytes kinds nodes left counts ars starts : List ℕ) (table : Table) (
   written_is (suc k) l = ap₂ (λ (w : Walk (List Bool)) (v : List Bool). cond (within 0 max_cells w) w.result v) (judged-is (suc k) l) (written_is k (omega arith))
 
   -- what `judge` answers is what the driver of `scope` finds under the limits
-  pub judges : (v₀ v : List ℕ) (r : Judged) → said_judged r ≡ answered (judged_to bytes counts ars nodes starts (length starts)) → v ≡ sets v₀ 0 (map bit (written (judged_to bytes counts ars nodes starts) (length starts))) → Judges table m v₀ v r
+  pub judges : (v₀ v : List ℕ) (r : Result ℕ TooMuch) → said_judged r ≡ answered (judged_to bytes counts ars nodes starts (length starts)) → v ≡ sets v₀ 0 (map bit (written (judged_to bytes counts ars nodes starts) (length starts))) → Judges table m v₀ v r
   judges v₀ v r e f = record {
     answer = e ∙ ap (λ (k : ℕ). answered (judged_to bytes counts ars nodes starts k)) holds.rows.many ∙ ap answered (judged-is (length m) (omega arith) ∙ ap (judged table []) (take-length m));
     verdicts = f ∙ ap (λ (k : ℕ). sets v₀ 0 (map bit (written (judged_to bytes counts ars nodes starts) k))) holds.rows.many ∙ ap (λ (l : List Bool). sets v₀ 0 (map bit l)) (written_is (length m) (omega arith));
   }
+
+-- an error is 10
+pub said-err : (r : Result ℕ TooMuch) → IsErr r → said_judged r ≡ refuse 10
+said-err (Ok calls) h = cc
+said-err (Err e) h = refl
 
 -- an answer that is done: the calls, and all verdicts
 pub record AllDone (table : Table) (m : Matrix) (v₀ v : List ℕ) (calls : ℕ) : Type 0 where
@@ -63,7 +68,7 @@ pub record AllDone (table : Table) (m : Matrix) (v₀ v : List ℕ) (calls : ℕ
   pub verdicts : v ≡ sets v₀ 0 (map bit (judged table [] m).result)
 
 module _ (table : Table) (m : Matrix) (v₀ v : List ℕ) where
-  pub judged-done : (calls : ℕ) → Judges table m v₀ v (Done calls) → AllDone table m v₀ v calls
+  pub judged-done : (calls : ℕ) → Judges table m v₀ v (Ok calls) → AllDone table m v₀ v calls
   unfolding answered judged
   judged-done calls j = go (within 0 max_cells (judged table [] m)) refl j.answer
     where
@@ -81,14 +86,14 @@ module _ (table : Table) (m : Matrix) (v₀ v : List ℕ) where
             (written-whole (λ k. judged table [] (take k m)) (length m) (λ z. ap (λ (k : ℕ). (judged table [] (take k m)).result) z) (ap (within 0 max_cells) whole ∙ e) ∙ ap (λ (w : Walk (List Bool)). w.result) whole);
       }
 
-  pub judged-over : Judges table m v₀ v Over → within 0 max_cells (judged table [] m) ≡ false
+  pub judged-over : (e : TooMuch) → Judges table m v₀ v (Err e) → within 0 max_cells (judged table [] m) ≡ false
   unfolding answered
-  judged-over j = go (within 0 max_cells (judged table [] m)) j.answer
+  judged-over e j = go (within 0 max_cells (judged table [] m)) j.answer
     where
       go : (b : Bool) → refuse 10 ≡ cond b (ok (judged table [] m).calls) (refuse 10) → b ≡ false
       go false q = refl
       go true q = clash (cc)
 
-pub judges-all : (bytes nodes left counts ars starts : List ℕ) → length ars < 32768 → (v₀ v : List ℕ) (r : Judged) → said_judged r ≡ answered (judged_to bytes counts ars nodes starts (length starts)) → v ≡ sets v₀ 0 (map bit (written (judged_to bytes counts ars nodes starts) (length starts)))
+pub judges-all : (bytes nodes left counts ars starts : List ℕ) → length ars < 32768 → (v₀ v : List ℕ) (r : Result ℕ TooMuch) → said_judged r ≡ answered (judged_to bytes counts ars nodes starts (length starts)) → v ≡ sets v₀ 0 (map bit (written (judged_to bytes counts ars nodes starts) (length starts)))
     → JudgesAll bytes nodes left counts ars starts v₀ v r
 judges-all bytes nodes left counts ars starts low v₀ v r e f kinds table t m holds = judges bytes kinds nodes left counts ars starts table t m holds low v₀ v r e f

@@ -7,6 +7,7 @@ use native.Mathlib.Omega.{arith}
 use lib.ListN.{length, take, drop, length-map}
 use lib.Seq.{sets, sets-eq, take_at}
 use lib.Dec.{ltb, leb}
+use Rattle.std.specs.Prelude.{Result, Ok, Err, IsErr}
 use Rattle.scope.specs.Limits.{max_calls, max_cells, max_missing}
 use Rattle.scope.specs.Lists.{bit}
 use Rattle.scope.specs.Types.{Table}
@@ -18,13 +19,14 @@ use Rattle.meaning.proofs.Promised.{judged-length}
 use Rattle.walks.specs.Limits.{within}
 use Rattle.judge.specs.Driver.{Judges}
 use Rattle.missing.specs.Missing.{Finds}
-use Rattle.judge.specs.declared.Judged.TheVariants as judged_as
-use Rattle.outcomes.specs.declared.Seek.TheVariants as seek
+use Rattle.outcomes.specs.declared.Seek.{Seek}
+use Rattle.outcomes.specs.declared.TooMuch.{TooMuch}
 use Rattle.verdicts.specs.Verdicts.{said}
 use Rattle.walks.proofs.Limits.{within-not}
 use Rattle.judge.proofs.Driver.{judged-done, judged-over}
 use Rattle.missing.proofs.Driver.{found-not, found-done, found-over}
-use Rattle.judging.specs.Walks.{Walked, over, done}
+use Rattle.judging.specs.declared.Walks.{Walks}
+use Rattle.judging.specs.Walks.{said_walks, Walked, over, done}
 
 -- the tests of refusal 10, walk by walk
 sorted : (a b c d e : Bool) → (a || b || c || d || e) ≡ ((a || c) || (b || d || e))
@@ -82,22 +84,27 @@ module _ (bytes : List ℕ) (b : Block) (v₀ v : List ℕ) where
   unfolding findings
   second-test x h = from-not (within 0 max_cells (findings b).missing && leb (nodes_in (findings b).missing.result) max_missing) (second_test (findings b)) x (found-not (findings b).missing) h
 
-  pub first-over : (out : List ℕ) → Judges b.table b.rows v₀ v judged_as.Over → Walked bytes b v out (refuse 10)
-  first-over out j = over (or_left (first_test (findings b)) (second_test (findings b)) (too_much (findings b)) (too_much_lem (findings b)) (first-test false (judged-over b.table b.rows v₀ v j)))
+  pub first-over : {out : List ℕ} {e : TooMuch} → Judges b.table b.rows v₀ v (Err e) → Walked bytes b v out (refuse 10)
+  first-over {e = e} j = over (or_left (first_test (findings b)) (second_test (findings b)) (too_much (findings b)) (too_much_lem (findings b)) (first-test false (judged-over b.table b.rows v₀ v e j)))
 
-  pub second-over : (out : List ℕ) → Finds bytes b.table b.rows out seek.Over → Walked bytes b v out (refuse 10)
-  second-over out f = over (or_right (first_test (findings b)) (second_test (findings b)) (too_much (findings b)) (too_much_lem (findings b)) (second-test false (found-over bytes b.table b.rows out f)))
+  pub second-over : {out : List ℕ} {e : TooMuch} → Finds bytes b.table b.rows out (Err e) → Walked bytes b v out (refuse 10)
+  second-over {out} {e} f = over (or_right (first_test (findings b)) (second_test (findings b)) (too_much (findings b)) (too_much_lem (findings b)) (second-test false (found-over bytes b.table b.rows out e f)))
 
-  pub both-done : (out : List ℕ) (first written gaps second : ℕ) → length b.rows ≤ length v₀ → Judges b.table b.rows v₀ v (judged_as.Done first) → Finds bytes b.table b.rows out (seek.Done written gaps second) → Walked bytes b v out (ok (first, (written, (gaps, second))))
+  pub both-done : {out : List ℕ} {first : ℕ} {found : Seek} → length b.rows ≤ length v₀ → Judges b.table b.rows v₀ v (Ok first) → Finds bytes b.table b.rows out (Ok found) → Walked bytes b v out (ok (first, (found.written, (found.rows, found.calls))))
   unfolding findings
-  both-done out first written gaps second l j f =
+  both-done {out} {first} {found} l j f =
       let a = judged-done b.table b.rows v₀ v first j in
-      let c = found-done bytes b.table b.rows out written gaps second f in
+      let c = found-done bytes b.table b.rows out found f in
       done
       (or_neither (first_test (findings b)) (second_test (findings b)) (too_much (findings b)) (too_much_lem (findings b)) (first-test true a.fits) (second-test true c.fits))
       (said-front b.table b.rows v₀ v l a.verdicts)
-      (f.rows written gaps second refl)
+      (f.rows found refl)
       c.nodes
       c.count
       a.called
       c.called
+
+-- an error is 10
+pub said-over : (r : Result Walks TooMuch) → IsErr r → said_walks r ≡ refuse 10
+said-over (Ok w) h = cc
+said-over (Err e) h = refl

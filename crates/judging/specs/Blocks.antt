@@ -3,6 +3,7 @@ use Rattle.std.specs.Prelude.{List, [], ◌∷◌, ℕ, ◌≤◌, ◌<◌, leng
 use Rattle.laws.specs.Typed.{TypedRows}
 use Rattle.scope.specs.Blocks.{Block}
 use Rattle.scope.specs.Driver.{findings}
+use Rattle.layout.specs.declared.lent.Block.{Block as Lent}
 use Rattle.walks.specs.Bridge.{Holding}
 use Rattle.text.specs.Rows.{slices, Tabled}
 
@@ -22,6 +23,10 @@ pub record Slices : Type 0 where
 -- these slices
 abbrev pub lent : List ℕ → List ℕ → List ℕ → List ℕ → List ℕ → List ℕ → List ℕ → List ℕ → List ℕ → List ℕ → Slices
 lent bytes kinds counts arities starts names labels nodes left rows = record { bytes = bytes; kinds = kinds; counts = counts; arities = arities; starts = starts; names = names; labels = labels; nodes = nodes; left = left; rows = rows }
+
+-- those of a lent block, and where the row of each clause begins
+abbrev pub lent_by : Lent → List ℕ → Slices
+lent_by b rows = lent b.types.bytes.now b.types.kinds.now b.types.counts.now b.types.arities.now b.types.starts.now b.types.names.now b.types.labels.now b.nodes.now b.left.now rows
 
 -- they hold a block: its types, its names, a row for each clause; and its missing rows are patterns of the subject's type
 pub record Holds (s : Slices) (b : Block) : Type 0 where

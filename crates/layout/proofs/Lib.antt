@@ -2,3 +2,4 @@
 pub mod Loops
 pub mod Slices
 pub mod Texts
+pub mod Chains

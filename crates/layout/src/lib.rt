@@ -4,7 +4,10 @@
 ghost use Rattle.std.specs.Prelude.{◌≡◌, ◌+◌, ◌<◌, ◌≤◌, ◌^◌, length, get_or};
 ghost use Rattle.layout.specs.Types.{text_at};
 
-use cells::{at8, wide8};
+use cells::get;
+
+pub mod lent;
+pub mod tables;
 
 // The place after the name whose length stands at `at`.
 pub fn after_name(bytes: &[u8], at: usize) -> usize
@@ -12,7 +15,7 @@ pub fn after_name(bytes: &[u8], at: usize) -> usize
     ensures value { result ≡ at + 1 + get_or bytes.now at 0 }
     ensures upper_bound { result ≤ at + 256 }
 {
-    at + 1 + wide8(at8(bytes, at))
+    at + 1 + usize::from(get(bytes, at))
 }
 
 // The name whose length stands at `at`, cut at the end of the bytes.

@@ -9,31 +9,19 @@ ghost use Rattle.scope.specs.Lists.{among};
 pub fn is_line_length(n: usize) -> bool
     ensures { result ≡ (ltb 0 n && eqb (n % 2) 0 && leb n max_digits) }
 {
-    if n == 0 {
-        return false;
-    }
-    if 1280 < n {
-        return false;
-    }
-    n % 2 == 0
+    0 < n && n % 2 == 0 && n <= 1280
 }
 
 // 4: may a name have n bytes.
 pub fn is_name_length(n: u8) -> bool
     ensures { result ≡ among 1 32 n }
 {
-    match n {
-        0 => false,
-        _ => n <= 32,
-    }
+    matches!(n, 1..=32)
 }
 
 // 4: may a constructor have n fields, with labels (1) or without (0).
 pub fn is_arity(labels: u8, n: u8) -> bool
     ensures { result ≡ among labels 16 n }
 {
-    if n < labels {
-        return false;
-    }
-    n <= 16
+    (labels..=16).contains(&n)
 }

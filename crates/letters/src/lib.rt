@@ -12,106 +12,79 @@ use digits::{is_hex, is_leading};
 pub fn among(lo: u8, hi: u8, b: u8) -> bool
     ensures { result ≡ among lo hi b }
 {
-    if b < lo {
-        return false;
-    }
-    b <= hi
+    (lo..=hi).contains(&b)
 }
 
 // A to Z.
 pub fn is_upper(b: u8) -> bool
     ensures { result ≡ is_upper b }
 {
-    among(65, 90, b)
+    b.is_ascii_uppercase()
 }
 
 // a to z.
 pub fn is_lower(b: u8) -> bool
     ensures { result ≡ is_lower b }
 {
-    among(97, 122, b)
+    b.is_ascii_lowercase()
 }
 
 // 0 to 9.
 pub fn is_digit(b: u8) -> bool
     ensures { result ≡ is_digit b }
 {
-    among(48, 57, b)
+    b.is_ascii_digit()
 }
 
 // a to z, digits or underscore.
+#[tactic(auto, unfolding(scope::specs::Frames::is_small))]
 pub fn is_small(b: u8) -> bool
     ensures { result ≡ is_small b }
 {
-    if is_lower(b) {
-        return true;
-    }
-    if is_digit(b) {
-        return true;
-    }
-    b == 95
+    is_lower(b) || is_digit(b) || b == b'_'
 }
 
 // Letters, digits or underscore.
+#[tactic(auto, unfolding(scope::specs::Frames::is_big))]
 pub fn is_big(b: u8) -> bool
     ensures { result ≡ is_big b }
 {
-    if is_upper(b) {
-        return true;
-    }
-    is_small(b)
+    is_upper(b) || is_small(b)
 }
 
 // A digit, decimal or hexadecimal.
+#[tactic(auto, unfolding(scope::specs::Lines::is_hex))]
 fn is_digit_of(hex: bool, b: u8) -> bool
     ensures { result ≡ digit_of hex b }
 {
-    if hex {
-        return is_hex(b);
-    }
-    is_digit(b)
+    if hex { is_hex(b) } else { is_digit(b) }
 }
 
 // Whether all bytes are digits, decimal or hexadecimal.
 pub fn all_digits(hex: bool, t: &[u8]) -> bool
     ensures { result ≡ all (digit_of hex) t.now }
 {
-    let mut i = 0;
-    while i < t.len() {
-        if !is_digit_of(hex, t[i]) {
-            return false;
-        }
-        i += 1;
-    }
-    true
+    t.iter().all(|&b| is_digit_of(hex, b))
 }
 
 // Digits of which the first is not 0.
 fn is_positive(t: &[u8]) -> bool
     ensures { result ≡ is_positive t.now }
 {
-    if t.len() == 0 {
-        return false;
+    match t {
+        [] => false,
+        [d, rest @ ..] => is_leading(*d) && all_digits(false, rest),
     }
-    if !is_leading(t[0]) {
-        return false;
-    }
-    all_digits(false, &t[1..])
 }
 
 // Decimal text: an optional minus and no needless zero.
+#[tactic(auto, unfolding(scope::specs::Frames::is_decimal))]
 pub fn is_decimal(t: &[u8]) -> bool
     ensures { result ≡ is_decimal t.now }
 {
-    if t.len() == 0 {
-        return false;
+    match t {
+        [b'-', rest @ ..] => is_positive(rest),
+        b"0" => true,
+        _ => is_positive(t),
     }
-    let d = t[0];
-    if d == 45 {
-        return is_positive(&t[1..]);
-    }
-    if d == 48 {
-        return t.len() == 1;
-    }
-    is_positive(t)
 }

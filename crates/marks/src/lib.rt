@@ -4,82 +4,80 @@
 ghost use Rattle.std.specs.Prelude.{◌≡◌, not, ◌&&◌, ◌+◌, ◌^◌, ◌<◌, ◌≤◌, get_or, eqb};
 ghost use Rattle.scope.specs.Lists.{bytes as text};
 ghost use Rattle.layout.specs.Types.{text_at};
-ghost use Rattle.writing.specs.Writing.{Wrote};
-ghost use Rattle.marks.specs.Marks.{open_text, close_text, field_mark};
+ghost use Rattle.writing.specs.Writing.{Writes};
+ghost use Rattle.marks.specs.Marks.{between_text, open_text, close_text, field_mark};
 
-use cells::{at16, wide16};
-use looks::put_label;
+use layout::lent::Types;
+use looks::{is_wild, put_label};
 use wording::either;
-use writing::all;
+use writing::Writer;
 
 // What stands between two patterns.
-pub fn comma(out: &mut [u8], at: usize) -> usize
-    requires { at + 2 < 2 ^ 64 }
-    ensures { Wrote out.old out.new at result (text ", ") }
+pub fn comma(w: &mut Writer<'_>)
+    requires { w.old.at + 2 < 2 ^ 64 }
+    ensures { Writes w.old w.new (text ", ") }
 {
-    all(out, at, b", ")
+    w.all(b", ");
+}
+
+// What stands before pattern k of several: nothing before the first, whose k is 0.
+pub fn put_between(w: &mut Writer<'_>, k: usize)
+    requires { w.old.at + 2 < 2 ^ 64 }
+    ensures wrote { Writes w.old w.new (between_text k) }
+    ensures upper_bound { w.new.at ≤ w.old.at + 2 }
+{
+    if k != 0 {
+        comma(w);
+    }
 }
 
 // A wildcard as the tail of a list.
-pub fn dots(out: &mut [u8], at: usize) -> usize
-    requires { at + 2 < 2 ^ 64 }
-    ensures { Wrote out.old out.new at result (text "..") }
+pub fn dots(w: &mut Writer<'_>)
+    requires { w.old.at + 2 < 2 ^ 64 }
+    ensures { Writes w.old w.new (text "..") }
 {
-    all(out, at, b"..")
+    w.all(b"..");
 }
 
 // The bracket before a constructor's arguments.
-pub fn put_open(labelled: bool, out: &mut [u8], at: usize) -> usize
-    requires { at + 4 < 2 ^ 64 }
-    ensures wrote { Wrote out.old out.new at result (open_text labelled) }
-    ensures upper_bound { result ≤ at + 4 }
+pub fn put_open(w: &mut Writer<'_>, labelled: bool)
+    requires { w.old.at + 4 < 2 ^ 64 }
+    ensures wrote { Writes w.old w.new (open_text labelled) }
+    ensures upper_bound { w.new.at ≤ w.old.at + 4 }
 {
-    either(labelled, out, at, b" { ", b"(")
+    either(w, labelled, b" { ", b"(");
 }
 
 // The bracket after them.
-pub fn put_close(labelled: bool, out: &mut [u8], at: usize) -> usize
-    requires { at + 3 < 2 ^ 64 }
-    ensures wrote { Wrote out.old out.new at result (close_text labelled) }
-    ensures upper_bound { result ≤ at + 3 }
+pub fn put_close(w: &mut Writer<'_>, labelled: bool)
+    requires { w.old.at + 3 < 2 ^ 64 }
+    ensures wrote { Writes w.old w.new (close_text labelled) }
+    ensures upper_bound { w.new.at ≤ w.old.at + 3 }
 {
-    either(labelled, out, at, b" }", b")")
+    either(w, labelled, b" }", b")");
 }
 
 // Whether the constructor with the number i has labels: whether one stands at its first field.
-pub fn has_labels(starts: &[u16], labels: &[u16], i: usize) -> bool
-    ensures { result ≡ not (eqb (get_or labels.now (get_or starts.now i 0) 0) 0) }
+pub fn has_labels(types: &Types<'_>, i: usize) -> bool
+    ensures { result ≡ not (eqb (get_or types.now.labels.now (get_or types.now.starts.now i 0) 0) 0) }
 {
-    at16(labels, wide16(at16(starts, i))) != 0
+    types.label(types.start(i)) != 0
 }
 
-// What stands before the pattern at p: the label of field i, where there are labels.
-pub fn put_mark(
-    labelled: bool,
-    bytes: &[u8],
-    labels: &[u16],
-    nodes: &[u16],
-    p: usize,
-    i: usize,
-    out: &mut [u8],
-    at: usize,
-) -> usize
-    requires { at + 257 < 2 ^ 64 }
-    ensures wrote { Wrote out.old out.new at result (field_mark labelled (text_at bytes.now (get_or labels.now i 0)) (get_or nodes.now p 0)) }
-    ensures upper_bound { result ≤ at + 257 }
+// What stands before a node: the label of field i, where there are labels.
+pub fn put_mark(w: &mut Writer<'_>, labelled: bool, types: &Types<'_>, i: usize, node: u16)
+    requires { w.old.at + 257 < 2 ^ 64 }
+    ensures wrote { Writes w.old w.new (field_mark labelled (text_at types.now.bytes.now (get_or types.now.labels.now i 0)) node) }
+    ensures upper_bound { w.new.at ≤ w.old.at + 257 }
 {
     if labelled {
-        return put_label(bytes, nodes, p, wide16(at16(labels, i)), out, at);
+        put_label(w, types, types.label(i), node);
     }
-    at
 }
 
-// Whether the label says all: the pattern at p is a wildcard.
-pub fn is_bare(labelled: bool, nodes: &[u16], p: usize) -> bool
-    ensures { result ≡ (labelled && eqb (get_or nodes.now p 0) 0) }
+// Whether the label says all: the node is a wildcard.
+pub fn is_bare(labelled: bool, node: u16) -> bool
+    ensures { result ≡ (labelled && eqb node 0) }
 {
-    if labelled {
-        return at16(nodes, p) == 0;
-    }
-    false
+    labelled && is_wild(node)
 }

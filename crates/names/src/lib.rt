@@ -16,32 +16,16 @@ pub fn fixed_names() -> [u8; 11]
 }
 
 // Two texts compared byte by byte.
+#[tactic(auto, using(crate::proofs::Laws::pointwise_same))]
 pub fn same(a: &[u8], b: &[u8]) -> bool
     ensures { result ≡ same a.now b.now }
 {
-    if a.len() != b.len() {
-        return false;
-    }
-    let mut i = 0;
-    while i < a.len() {
-        if a[i] != b[i] {
-            return false;
-        }
-        i += 1;
-    }
-    true
+    a == b
 }
 
 // Whether s stands anywhere in t.
 pub fn contains(s: &[u8], t: &[u8]) -> bool
     ensures { result ≡ contains s.now t.now }
 {
-    let mut i = 0;
-    while s.len() <= t.len() - i {
-        if same(s, &t[i..i + s.len()]) {
-            return true;
-        }
-        i += 1;
-    }
-    false
+    s.is_empty() || t.windows(s.len()).any(|w| s == w)
 }

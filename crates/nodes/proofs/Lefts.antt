@@ -1,23 +1,14 @@
--- What `arity` and `count_left` give: the arguments of a node, and how many patterns are left, one node after another.
+-- What `count_left` gives: how many patterns are left, one node after another.
 use mathlib.Core.Path.{◌≡◌, refl, sym, ap, ◌∙◌}
 use mathlib.Core.List.{List, [], ◌∷◌, ◌++◌, map, map-append}
-use Prim.Native.Nat.{ℕ, zero, suc, ◌+◌, ◌-◌, ◌≤◌, ◌<◌}
+use Prim.Native.Nat.{ℕ, suc, ◌+◌, ◌-◌, ◌<◌}
 use native.Mathlib.Omega.{arith}
 use native.Mathlib.Numerals.{add-one}
 use lib.ListN.{length, get_or, take, set, length-map}
 use lib.Seq.{sets, take-suc, length-take-le}
-use borrow.Author.Tests.{lt-ltb, le-ltb}
 use Rattle.cells.proofs.Laws.{sets-sets}
 use Rattle.nodes.specs.Keys.{low16}
 use Rattle.nodes.specs.Lefts.{arity_of, lefts_of, left_after}
-
-pub arity-literal : (arities : List ℕ) (node : ℕ) → 32768 ≤ node → 0 ≡ arity_of arities node
-arity-literal arities zero l = refl
-arity-literal arities (suc i) l = rw (le-ltb i 32767 (omega arith))
-
-pub arity-ctor : (arities : List ℕ) (node i a r : ℕ) → (node ≡ 0 → ⊥) → node < 32768 → i ≡ node - 1 → a ≡ get_or arities i 0 → r ≡ a → r ≡ arity_of arities node
-arity-ctor arities zero i a r d l i_is a_is e = absurd (d refl)
-arity-ctor arities (suc j) i a r d l i_is a_is e = let h : i ≡ j = omega arith in rw (lt-ltb j 32767 (omega arith), ← h) (e ∙ a_is)
 
 module _ (arities : List ℕ) where
   lefts-more : (k : ℕ) (ns : List ℕ) (n : ℕ) → lefts_of arities k (ns ++ n ∷ []) ≡ lefts_of arities k ns ++ left_after arities k ns ∷ []

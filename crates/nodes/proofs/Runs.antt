@@ -4,20 +4,13 @@ use mathlib.Core.Bool.{cond}
 use mathlib.Core.List.{List, [], ◌∷◌, ◌++◌, map, append_assoc}
 use Prim.Native.Nat.{ℕ, zero, suc, ◌+◌, ◌-◌, ◌<◌}
 use native.Mathlib.Omega.{arith}
-use lib.ListN.{length, set, replicate, length-replicate, replicate-append-replicate}
+use lib.ListN.{length, replicate}
 use lib.Seq.{sets}
 use lib.Dec.{ltb}
 use borrow.Author.Tests.{lt-ltb}
 use Rattle.cells.proofs.Laws.{sets-sets}
 use Rattle.scope.specs.Simplify.{Item, put}
 use Rattle.layout.specs.Nodes.{node_of, row_of, Literals, done, also, places_in}
-
--- one node more of the same
-pub many-next : (d : List ℕ) (from i x : ℕ) → set (sets d from (replicate i x)) (from + i) x ≡ sets d from (replicate (i + 1) x)
-many-next d from i x =
-    ap (λ (k : ℕ). set (sets d from (replicate i x)) (from + k) x) (sym (length-replicate i x))
-    ∙ sets-sets (replicate i x) (x ∷ []) d from
-    ∙ ap (sets d from) (replicate-append-replicate i 1 x)
 
 -- stores after stores
 pub stores : (d d₁ d₂ xs ys : List ℕ) (from at : ℕ) → d₁ ≡ sets d from xs → at ≡ from + length xs → d₂ ≡ sets d₁ at ys → d₂ ≡ sets d from (xs ++ ys)

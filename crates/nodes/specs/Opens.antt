@@ -6,6 +6,8 @@ use Rattle.scope.specs.Simplify.{Node, wild, Item, put, pat}
 use Rattle.layout.specs.Nodes.{node_of}
 use Rattle.nodes.specs.Keys.{key_of}
 use Rattle.nodes.specs.declared.Open.{Open}
+use Rattle.nodes.specs.declared.What.{What}
+use Rattle.nodes.specs.declared.What.TheVariants as what
 
 -- an open pattern by its three cells
 abbrev pub opening : ℕ → ℕ → ℕ → Open
@@ -26,6 +28,10 @@ list_type what = (what - 32768) / 2
 -- has a list a tail
 abbrev pub has_tail : ℕ → Bool
 has_tail what = eqb (what % 2) 1
+
+-- what a cell says
+abbrev pub what_of : ℕ → What
+what_of n = cond (is_list n) (what.List (list_type n) (has_tail n)) (what.Ctor n)
 
 -- the types of k fields from a place of 16 bits on
 unfoldable pub field_items : ℕ → List ℕ → ℕ → List Item

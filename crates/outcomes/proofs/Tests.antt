@@ -7,32 +7,31 @@ use lib.Dec.{leb, ltb}
 use borrow.Author.Tests.{ltb-true, ltb-false, leb-true, leb-false, lt-ltb, le-ltb, le-leb, lt-leb}
 use Rattle.scope.proofs.Tests.{either, neither, clash}
 use Rattle.scope.specs.Blocks.{ok, refuse}
+use Rattle.std.specs.Prelude.{Result, Ok, Err}
+use Rattle.outcomes.specs.declared.TooMuch.{TooMuch}
 use Rattle.outcomes.specs.declared.Verdict.{Verdict}
-use Rattle.outcomes.specs.declared.Verdict.TheVariants as verdict
 use Rattle.outcomes.specs.declared.Spelt.{Spelt}
-use Rattle.outcomes.specs.declared.Spelt.TheVariants as spelt
 use Rattle.outcomes.specs.declared.Seek.{Seek}
-use Rattle.outcomes.specs.declared.Seek.TheVariants as seek
 use Rattle.outcomes.specs.Past.{said_verdict, said_spelt, said_seek, past, fitting}
 
 -- answers that say the same are the same
-pub same-verdict : (r s : Verdict) → said_verdict r ≡ said_verdict s → r ≡ s
-same-verdict (verdict.Done x c) (verdict.Done y d) e = let i : ◌≡◌ {A = Bool × ℕ} (x, c) (y, d) = cc in ap (λ (p : Bool × ℕ). verdict.Done p.0 p.1) i
-same-verdict (verdict.Done x c) verdict.Over e = clash (cc)
-same-verdict verdict.Over (verdict.Done y d) e = clash (cc)
-same-verdict verdict.Over verdict.Over e = refl
+pub same-verdict : (r s : Result Verdict TooMuch) → said_verdict r ≡ said_verdict s → r ≡ s
+same-verdict (Ok v) (Ok w) e = let i : ◌≡◌ {A = Bool × ℕ} (v.yes, v.calls) (w.yes, w.calls) = cc in ap (λ (p : Bool × ℕ). Ok (record { yes = p.0; calls = p.1 })) i
+same-verdict (Ok v) (Err y) e = clash (cc)
+same-verdict (Err x) (Ok w) e = clash (cc)
+same-verdict (Err x) (Err y) e = refl
 
-pub same-spelt : (r s : Spelt) → said_spelt r ≡ said_spelt s → r ≡ s
-same-spelt (spelt.Done v j) (spelt.Done w k) e = let i : ◌≡◌ {A = ℕ × ℕ} (v, j) (w, k) = cc in ap (λ (p : ℕ × ℕ). spelt.Done p.0 p.1) i
-same-spelt (spelt.Done v j) spelt.Over e = clash (cc)
-same-spelt spelt.Over (spelt.Done w k) e = clash (cc)
-same-spelt spelt.Over spelt.Over e = refl
+pub same-spelt : (r s : Result Spelt TooMuch) → said_spelt r ≡ said_spelt s → r ≡ s
+same-spelt (Ok v) (Ok w) e = let i : ◌≡◌ {A = ℕ × ℕ} (v.written, v.rows) (w.written, w.rows) = cc in ap (λ (p : ℕ × ℕ). Ok (record { written = p.0; rows = p.1 })) i
+same-spelt (Ok v) (Err y) e = clash (cc)
+same-spelt (Err x) (Ok w) e = clash (cc)
+same-spelt (Err x) (Err y) e = refl
 
-pub same_seek : (r s : Seek) → said_seek r ≡ said_seek s → r ≡ s
-same_seek (seek.Done v j c) (seek.Done w k d) e = let i : ◌≡◌ {A = ℕ × (ℕ × ℕ)} (v, (j, c)) (w, (k, d)) = cc in ap (λ (p : ℕ × (ℕ × ℕ)). seek.Done p.0 p.1.0 p.1.1) i
-same_seek (seek.Done v j c) seek.Over e = clash (cc)
-same_seek seek.Over (seek.Done w k d) e = clash (cc)
-same_seek seek.Over seek.Over e = refl
+pub same_seek : (r s : Result Seek TooMuch) → said_seek r ≡ said_seek s → r ≡ s
+same_seek (Ok v) (Ok w) e = let i : ◌≡◌ {A = ℕ × (ℕ × ℕ)} (v.written, (v.rows, v.calls)) (w.written, (w.rows, w.calls)) = cc in ap (λ (p : ℕ × (ℕ × ℕ)). Ok (record { written = p.0; rows = p.1.0; calls = p.1.1 })) i
+same_seek (Ok v) (Err y) e = clash (cc)
+same_seek (Err x) (Ok w) e = clash (cc)
+same_seek (Err x) (Err y) e = refl
 
 -- a call that is entered: its cells are within the room, and it is within the calls
 pub record Entered (calls cells room : ℕ) : Type 0 where

@@ -1,28 +1,26 @@
 -- A call held to the limits, a row more held to the limit of nodes, and a leaf's rows with its call.
-use Rattle.std.specs.Prelude.{Bool, cond, ◌||◌, ℕ, ◌+◌, leb, ltb}
+use Rattle.std.specs.Prelude.{Bool, cond, ◌||◌, ℕ, ◌+◌, leb, ltb, Result, Ok, Err}
 use Rattle.scope.specs.Limits.{max_calls, max_missing}
 use Rattle.scope.specs.Blocks.{Step, ok, refuse}
+use Rattle.outcomes.specs.declared.TooMuch.{TooMuch}
 use Rattle.outcomes.specs.declared.Verdict.{Verdict}
-use Rattle.outcomes.specs.declared.Verdict.TheVariants as verdict
 use Rattle.outcomes.specs.declared.Spelt.{Spelt}
-use Rattle.outcomes.specs.declared.Spelt.TheVariants as spelt
 use Rattle.outcomes.specs.declared.Seek.{Seek}
-use Rattle.outcomes.specs.declared.Seek.TheVariants as seek
 
 -- document 01's number and values for each case: whether the row is useful, and the calls; 10
-abbrev pub said_verdict : Verdict → Step (Bool × ℕ)
-said_verdict (verdict.Done b calls) = ok (b, calls)
-said_verdict verdict.Over = refuse 10
+abbrev pub said_verdict : Result Verdict TooMuch → Step (Bool × ℕ)
+said_verdict (Ok v) = ok (v.yes, v.calls)
+said_verdict (Err e) = refuse 10
 
 -- how many nodes and rows are written; 10
-abbrev pub said_spelt : Spelt → Step (ℕ × ℕ)
-said_spelt (spelt.Done written rows) = ok (written, rows)
-said_spelt spelt.Over = refuse 10
+abbrev pub said_spelt : Result Spelt TooMuch → Step (ℕ × ℕ)
+said_spelt (Ok r) = ok (r.written, r.rows)
+said_spelt (Err e) = refuse 10
 
 -- how many nodes and rows are written, and the calls; 10
-abbrev pub said_seek : Seek → Step (ℕ × (ℕ × ℕ))
-said_seek (seek.Done written rows calls) = ok (written, (rows, calls))
-said_seek seek.Over = refuse 10
+abbrev pub said_seek : Result Seek TooMuch → Step (ℕ × (ℕ × ℕ))
+said_seek (Ok r) = ok (r.written, (r.rows, r.calls))
+said_seek (Err e) = refuse 10
 
 -- is a call that holds so many cells past a limit, after so many calls and with room for so many cells
 unfoldable pub past : ℕ → ℕ → ℕ → Bool

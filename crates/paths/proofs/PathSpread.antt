@@ -1,21 +1,24 @@
 -- Rows written out one after another: what is written, and when the nodes are over.
 use mathlib.Core.Path.{◌≡◌, refl, sym, ap, ap₂, subst, ◌∙◌}
+use mathlib.Core.Bool.{cond}
 use mathlib.Core.Logic.{⊎_elim}
 use mathlib.Core.List.{List, [], ◌∷◌, ◌++◌, append_assoc, append-nil}
 use Prim.Native.Nat.{ℕ, ◌+◌, ◌≤◌, ◌<◌}
 use native.Mathlib.Nat.{add-zero}
 use native.Mathlib.Omega.{arith}
 use lib.ListN.{length, length-append}
+use Rattle.std.specs.Prelude.{Result, Ok, Err, IsErr}
 use lib.Seq.{sets, length-sets}
+use lib.Dec.{leb}
 use borrow.Author.Tests.{le-leb, lt-leb}
 use Rattle.cells.proofs.Laws.{sets-sets}
 use Rattle.scope.specs.Lists.{flatten}
 use Rattle.scope.proofs.Tests.{clash}
 use Rattle.matrix.specs.Numbers.{Rows}
 use Rattle.scope.specs.Blocks.{Step, ok, refuse}
-use Rattle.outcomes.specs.Past.{said_spelt}
+use Rattle.outcomes.specs.Past.{said_spelt, fitting}
 use Rattle.outcomes.specs.declared.Spelt.{Spelt}
-use Rattle.outcomes.specs.declared.Spelt.TheVariants.{Done, Over}
+use Rattle.outcomes.specs.declared.TooMuch.{TooMuch}
 use Rattle.paths.specs.Spread.{nodes_of, Put, fitted, Spread}
 use Rattle.matrix.proofs.Orders.{le_or}
 
@@ -77,55 +80,56 @@ module _ (written rows : ℕ) (a b : Rows) where
       (λ l. fitted_out w k b l ∙ sym (fitted_out written rows (a ++ b) (omega arith)))
       (le_or (w + nodes_of b) 4096)
 
-pub spread_none : (d : List ℕ) (written rows : ℕ) (m : Rows) → m ≡ [] → written ≤ 4096 → rows ≤ written → Spread d written rows m (Done written rows) d
-spread_none d written rows m e l f = subst (λ (x : Rows). Spread d written rows x (Done written rows) d) (sym e)
+pub spread_none : (d : List ℕ) (v : Spelt) (m : Rows) → m ≡ [] → v.written ≤ 4096 → v.rows ≤ v.written → Spread d v.written v.rows m (Ok v) d
+spread_none d v m e l f = subst (λ (x : Rows). Spread d v.written v.rows x (Ok v) d) (sym e)
     (record {
-      is = ap₂ (λ (x y : ℕ). ok (x, y)) (sym (add-zero written)) (sym (add-zero rows)) ∙ sym (fitted_in written rows [] (omega arith));
+      is = ap₂ (λ (x y : ℕ). ok (x, y)) (sym (add-zero v.written)) (sym (add-zero v.rows)) ∙ sym (fitted_in v.written v.rows [] (omega arith));
       long = refl;
-      text = λ w k q. refl;
-      few = λ w k q. let x : written ≡ w = cc in let y : rows ≡ k = cc in omega arith;
+      text = λ w q. let x : v ≡ w = cc in refl;
+      few = λ w q. let x : v ≡ w = cc in subst (λ (y : Spelt). y.rows ≤ y.written) x f;
     })
 
 -- one row
 module _ (d : List ℕ) (written rows : ℕ) (row : List ℕ) (at : ℕ) (e : List ℕ) (p : Put d written row at e) where
-  pub spread-over : 4096 < at → Spread d written rows (row ∷ []) Over e
-  spread-over l = record {
-    is = sym (fitted_out written rows (row ∷ []) (omega (arith, p.place)));
-    long = ap length p.text ∙ length-sets d written row;
-    text = λ w k q. clash (cc);
-    few = λ w k q. clash (cc);
-  }
-
-  pub spread-one : at ≤ 4096 → rows ≤ written → 0 < length row → Spread d written rows (row ∷ []) (Done at (rows + 1)) e
-  spread-one l f z =
+  one-fits : fitting at rows ≡ fitted written rows (row ∷ [])
+  unfolding fitting fitted
+  one-fits =
       let n : at ≡ written + nodes_of (row ∷ []) = omega (arith, p.place) in
       let c : rows + 1 ≡ rows + length (row ∷ []) = omega arith in
-      record {
-        is = ap₂ (λ (x y : ℕ). ok (x, y)) n c ∙ sym (fitted_in written rows (row ∷ []) (omega arith));
-        long = ap length p.text ∙ length-sets d written row;
-        text = λ w k q. p.text ∙ ap (sets d written) (sym (append-nil row));
-        few = λ w k q. let x : at ≡ w = cc in let y : rows + 1 ≡ k = cc in omega (arith, p.place);
-      }
+      ap₂ (λ (x y : ℕ). cond (leb x 4096) (ok (x, y)) (refuse 10)) n c
+
+  pub spread-one : (r : Result Spelt TooMuch) → said_spelt r ≡ fitting at rows → rows ≤ written → 0 < length row → Spread d written rows (row ∷ []) r e
+  spread-one r q f z = record {
+    is = q ∙ one-fits;
+    long = ap length p.text ∙ length-sets d written row;
+    text = λ v e. p.text ∙ ap (sets d written) (sym (append-nil row));
+    few = λ v e. let i = fitted-done written rows (row ∷ []) v.written v.rows (sym (ap said_spelt e) ∙ q ∙ one-fits) in omega (arith, i.nodes, i.count);
+  }
 
 -- one list of rows, then another
-module _ (d : List ℕ) (written rows : ℕ) (a b m : Rows) (same : m ≡ a ++ b) (r : Spelt) (e : List ℕ) (f : Spread d written rows a r e) where
-  pub spread-stop : r ≡ Over → Spread d written rows m Over e
-  spread-stop q = subst (λ (x : Rows). Spread d written rows x Over e) (sym same) (record {
+module _ (d : List ℕ) (written rows : ℕ) (a b m : Rows) (same : m ≡ a ++ b) (r : Result Spelt TooMuch) (e : List ℕ) (f : Spread d written rows a r e) where
+  pub spread-stop : (t : TooMuch) → r ≡ Err t → (u : Result Spelt TooMuch) → IsErr u → Spread d written rows m u e
+  spread-stop t q (Ok v) i = clash (cc)
+  spread-stop t q (Err u) i = subst (λ (x : Rows). Spread d written rows x (Err u) e) (sym same) (record {
     is = over_first written rows a b (sym (ap said_spelt q) ∙ f.is);
     long = f.long;
-    text = λ w k z. clash (cc);
-    few = λ w k z. clash (cc);
+    text = λ v z. clash (cc);
+    few = λ v z. clash (cc);
   })
 
-  pub spread-fit : (w k : ℕ) → r ≡ Done w k → (w ≤ 4096) × (k ≤ w)
-  spread-fit w k q = ((fitted-done written rows a w k (sym (ap said_spelt q) ∙ f.is)).inside, f.few w k q)
+  module _ (v : Spelt) (q : r ≡ Ok v) where
+    fit : Fit written rows a v.written v.rows
+    fit = fitted-done written rows a v.written v.rows (sym (ap said_spelt q) ∙ f.is)
 
-  pub spread-then : (w k : ℕ) → r ≡ Done w k → (r₂ : Spelt) (e₂ : List ℕ) → Spread e w k b r₂ e₂ → Spread d written rows m r₂ e₂
-  spread-then w k q r₂ e₂ g = subst (λ (x : Rows). Spread d written rows x r₂ e₂) (sym same) (record {
-    is = g.is ∙ fitted-then written rows a b w k (sym (ap said_spelt q) ∙ f.is);
-    long = g.long ∙ f.long;
-    text = λ w₂ k₂ z.
-        let n : w ≡ written + length (flatten a) = (fitted-done written rows a w k (sym (ap said_spelt q) ∙ f.is)).nodes ∙ ap (λ (x : ℕ). written + x) (sym (flatten-length a)) in
-        g.text w₂ k₂ z ∙ ap₂ (λ (x : List ℕ) (y : ℕ). sets x y (flatten b)) (f.text w k q) n ∙ sets-sets (flatten a) (flatten b) d written ∙ ap (sets d written) (sym (flatten_append a b));
-    few = g.few;
-  })
+    pub spread-fit : (v.written ≤ 4096) × (v.rows ≤ v.written)
+    spread-fit = (fit.inside, f.few v q)
+
+    pub spread-then : (r₂ : Result Spelt TooMuch) (e₂ : List ℕ) → Spread e v.written v.rows b r₂ e₂ → Spread d written rows m r₂ e₂
+    spread-then r₂ e₂ g = subst (λ (x : Rows). Spread d written rows x r₂ e₂) (sym same) (record {
+      is = g.is ∙ fitted-then written rows a b v.written v.rows (sym (ap said_spelt q) ∙ f.is);
+      long = g.long ∙ f.long;
+      text = λ w z.
+          let n : v.written ≡ written + length (flatten a) = fit.nodes ∙ ap (λ (x : ℕ). written + x) (sym (flatten-length a)) in
+          g.text w z ∙ ap₂ (λ (x : List ℕ) (y : ℕ). sets x y (flatten b)) (f.text v q) n ∙ sets-sets (flatten a) (flatten b) d written ∙ ap (sets d written) (sym (flatten_append a b));
+      few = g.few;
+    })

@@ -1,12 +1,12 @@
 -- What the writing of rows may assume, and what it leaves.
-use Rattle.std.specs.Prelude.{◌≡◌, cond, List, map, ℕ, ◌+◌, ◌≤◌, ◌<◌, length, get_or, leb}
+use Rattle.std.specs.Prelude.{◌≡◌, cond, List, map, ℕ, ◌+◌, ◌≤◌, ◌<◌, length, get_or, leb, Result, Ok}
 use Rattle.std.proofs.lemmas.List.Edits.{sets}
 use Rattle.scope.specs.Limits.{max_missing}
 use Rattle.scope.specs.Lists.{sum, flatten}
 use Rattle.scope.specs.Blocks.{Step, ok, refuse}
 use Rattle.outcomes.specs.Past.{said_spelt}
 use Rattle.outcomes.specs.declared.Spelt.{Spelt}
-use Rattle.outcomes.specs.declared.Spelt.TheVariants as spelt
+use Rattle.outcomes.specs.declared.TooMuch.{TooMuch}
 use Rattle.matrix.specs.Numbers.{Rows}
 
 -- the constructors and wildcards of rows
@@ -23,11 +23,11 @@ unfoldable pub fitted : ℕ → ℕ → Rows → Step (ℕ × ℕ)
 fitted written rows m = cond (leb (written + nodes_of m) max_missing) (ok (written + nodes_of m, rows + length m)) (refuse 10)
 
 -- the answer r of writing the rows m out to d
-pub record Spread (d : List ℕ) (written rows : ℕ) (m : Rows) (r : Spelt) (e : List ℕ) : Type 0 where
+pub record Spread (d : List ℕ) (written rows : ℕ) (m : Rows) (r : Result Spelt TooMuch) (e : List ℕ) : Type 0 where
   pub is : said_spelt r ≡ fitted written rows m
   pub long : length e ≡ length d
-  pub text : (w k : ℕ) → r ≡ spelt.Done w k → e ≡ sets d written (flatten m)
-  pub few : (w k : ℕ) → r ≡ spelt.Done w k → k ≤ w
+  pub text : (v : Spelt) → r ≡ Ok v → e ≡ sets d written (flatten m)
+  pub few : (v : Spelt) → r ≡ Ok v → v.rows ≤ v.written
 
 -- the constructors of the first cells of a path, and 32 more, are numbers of 16 bits
 pub record Low (path : List ℕ) (depth : ℕ) : Type 0 where

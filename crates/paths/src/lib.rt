@@ -6,21 +6,23 @@ ghost use Rattle.std.specs.Prelude.{◌≡◌, ℕ, ◌+◌, ◌-◌, ◌^◌, �
 ghost use Rattle.paths.specs.Path.{spelt1, spelt, chosen, under, path_of};
 ghost use Rattle.paths.specs.Spread.{Put, Spread, Spelling};
 
-use cells::put16;
+use cells::{put, put_many};
 use matrix::arity;
-use outcomes::{Spelt, fit};
+use outcomes::{Spelt, TooMuch, fit};
+
+// The steps from the root: nodes, and a set beside each. Two arrays, since pairs would take 32 KiB more of the stack.
+#[derive(Drop)]
+pub struct Steps {
+    pub nodes: [u16; 16384],
+    pub sets: [u32; 16384],
+}
 
 // n wildcards.
 fn put_wilds(out: &mut [u16; 4096], at: usize, n: usize) -> usize
     requires { at + n < 2 ^ 64 }
     ensures { Put out.old at (replicate n 0) result out.new }
 {
-    let mut i = 0;
-    while i < n {
-        put16(out, at + i, 0);
-        i += 1;
-    }
-    at + n
+    put_many(out, at, 0, n)
 }
 
 // One step of the path as it is chosen now.
@@ -28,7 +30,7 @@ fn put_step(arities: &[u8], node: u16, set: u32, out: &mut [u16; 4096], at: usiz
     requires { at + 65536 < 2 ^ 64 }
     ensures { Put out.old at (spelt1 arities.now node set) result out.new }
 {
-    let next = put16(out, at, node);
+    let next = put(out, at, node);
     if set == 0 {
         return next;
     }
@@ -39,22 +41,18 @@ fn put_step(arities: &[u8], node: u16, set: u32, out: &mut [u16; 4096], at: usiz
 // The row that the path says as it is chosen now, in front of n wildcards.
 fn put_row(
     arities: &[u8],
-    path: &[u16; 16384],
-    alts: &[u32; 16384],
+    steps: &Steps,
     depth: usize,
     n: usize,
     out: &mut [u16; 4096],
     written: usize,
 ) -> usize
-    requires { (depth ≤ length path.now) × (depth ≤ length alts.now) × (depth ≤ 16384) × (n ≤ 16640) × (written ≤ 4096) }
-    ensures { Put out.old written (spelt arities.now path.now alts.now 0 depth n) result out.new }
+    requires { (depth ≤ 16384) × (n ≤ 16640) × (written ≤ 4096) }
+    ensures { Put out.old written (spelt arities.now steps.now.nodes steps.now.sets 0 depth n) result out.new }
 {
     let mut at = written;
-    let mut i = 0;
-    while i < depth {
-        let next = put_step(arities, path[i], alts[i], out, at);
-        at = next;
-        i += 1;
+    for i in 0..depth {
+        at = put_step(arities, steps.nodes[i], steps.sets[i], out, at);
     }
     put_wilds(out, at, n)
 }
@@ -63,96 +61,56 @@ fn put_row(
 #[cycle(choose_put_rows)]
 pub fn put_rows(
     arities: &[u8],
-    path: &mut [u16; 16384],
-    alts: &[u32; 16384],
+    steps: &mut Steps,
     depth: usize,
     k: usize,
     n: usize,
     out: &mut [u16; 4096],
-    written: usize,
-    rows: usize,
-) -> Spelt
-    requires { Spelling path.old alts.now depth k n written rows }
-    ensures spread { Spread out.old written rows (under arities.now (path_of path.old alts.now k) (spelt arities.now path.old alts.now k (depth - k) n ∷ [])) result out.new }
-    ensures path_unchanged { path.new ≡ path.old }
+    at: Spelt,
+) -> Result<Spelt, TooMuch>
+    requires { Spelling steps.old.nodes steps.old.sets depth k n at.written at.rows }
+    ensures spread { Spread out.old at.written at.rows (under arities.now (path_of steps.old.nodes steps.old.sets k) (spelt arities.now steps.old.nodes steps.old.sets k (depth - k) n ∷ [])) result out.new }
+    ensures path_unchanged { steps.new ≡ steps.old }
 {
     if k == 0 {
-        let at = put_row(arities, path, alts, depth, n, out, written);
-        return fit(at, rows);
+        let end = put_row(arities, steps, depth, n, out, at.written);
+        return fit(end, at.rows);
     }
     let j = k - 1;
-    let b = path[j];
-    let rest = alts[j];
-    if rest == 0 {
-        return put_rows(arities, path, alts, depth, j, n, out, written, rows);
+    if steps.sets[j] == 0 {
+        return put_rows(arities, steps, depth, j, n, out, at);
     }
-    let r = choose(
-        arities, path, alts, depth, j, n, out, written, rows, b, rest, 32,
-    );
-    path[j] = b;
+    let b = steps.nodes[j];
+    let r = choose(arities, steps, depth, j, n, out, at);
+    steps.nodes[j] = b;
     r
 }
 
-// The same for each constructor of step k that is in the set `rest`, from b on, more of them.
+// The same for each constructor of step k that is in its set, the first of them standing there.
 #[cycle(choose_put_rows)]
 fn choose(
     arities: &[u8],
-    path: &mut [u16; 16384],
-    alts: &[u32; 16384],
+    steps: &mut Steps,
     depth: usize,
     k: usize,
     n: usize,
     out: &mut [u16; 4096],
-    written: usize,
-    rows: usize,
-    b: u16,
-    rest: u32,
-    more: usize,
-) -> Spelt
-    requires spelling { Spelling path.old alts.now depth k n written rows }
-    requires k_lt_depth { (k < depth) × (0 < get_or alts.now k 0) × (b + more < 65536) × (more ≤ 32) }
-    ensures spread { Spread out.old written rows (under arities.now (path_of path.old alts.now k) (chosen arities.now rest b more (spelt arities.now path.old alts.now (k + 1) (depth - (k + 1)) n))) result out.new }
-    ensures by_index { (x : ℕ) → set path.new k x ≡ set path.old k x }
+    mut at: Spelt,
+) -> Result<Spelt, TooMuch>
+    requires spelling { Spelling steps.old.nodes steps.old.sets depth k n at.written at.rows }
+    requires k_lt_depth { (k < depth) × (0 < get_or steps.old.sets k 0) × (get_or steps.old.nodes k 0 + 32 < 65536) }
+    ensures spread { Spread out.old at.written at.rows (under arities.now (path_of steps.old.nodes steps.old.sets k) (chosen arities.now (get_or steps.old.sets k 0) (get_or steps.old.nodes k 0) 32 (spelt arities.now steps.old.nodes steps.old.sets (k + 1) (depth - (k + 1)) n))) result out.new }
+    ensures by_index { (x : ℕ) → set steps.new.nodes k x ≡ set steps.old.nodes k x }
+    ensures sets_unchanged { steps.new.sets ≡ steps.old.sets }
 {
-    if more == 0 {
-        return Spelt::Done { written, rows };
+    let b = steps.nodes[k];
+    let mut rest = steps.sets[k];
+    for c in 0..32 {
+        if rest % 2 == 1 {
+            steps.nodes[k] = b + c;
+            at = put_rows(arities, steps, depth, k, n, out, at)?;
+        }
+        rest /= 2;
     }
-    if rest % 2 == 0 {
-        return choose(
-            arities,
-            path,
-            alts,
-            depth,
-            k,
-            n,
-            out,
-            written,
-            rows,
-            b + 1,
-            rest / 2,
-            more - 1,
-        );
-    }
-    path[k] = b;
-    let r = put_rows(arities, path, alts, depth, k, n, out, written, rows);
-    match r {
-        Spelt::Over => Spelt::Over,
-        Spelt::Done {
-            written: w,
-            rows: m,
-        } => choose(
-            arities,
-            path,
-            alts,
-            depth,
-            k,
-            n,
-            out,
-            w,
-            m,
-            b + 1,
-            rest / 2,
-            more - 1,
-        ),
-    }
+    Ok(at)
 }

@@ -22,9 +22,10 @@ use Rattle.layout.specs.Nodes as Nodes
 use Rattle.nodes.specs.Keys.{low16}
 use Rattle.nodes.specs.Lefts.{arity_of, lefts_of}
 use Rattle.scope.specs.Blocks.{ok, refuse}
-use Rattle.patterns.specs.Rows.{Given, said_simplified, Answers, Beside, Reading, Simplifies}
-use Rattle.patterns.specs.declared.Simplified.{Simplified}
-use Rattle.patterns.specs.declared.Simplified.TheVariants.{Row as Kept, Unsuited}
+use Rattle.patterns.specs.Rows.{Given, Answers, Beside, Reading, Simplifies}
+use Rattle.std.specs.Prelude.{Result, Ok, Err}
+use Rattle.std.specs.Result.{IsErr}
+use Rattle.suits.specs.declared.Unsuited.{Unsuited}
 
 module _ (table : Table) where
   -- the types of a node's arguments
@@ -105,11 +106,12 @@ run-there d d' vs used n e m l =
     ∙ take_at vs (drop (used + length vs) d) n (sym m)
 
 module _ (bytes : List ℕ) (from : ℕ) (kinds counts arities starts fields : List ℕ) (subject used : ℕ) (nodes left nodes' : List ℕ) where
-  abbrev Done : List ℕ → Simplified → Type 0
+  abbrev Done : List ℕ → Result ℕ Unsuited → Type 0
   Done left' r = Simplifies bytes from kinds counts arities starts fields subject used nodes left nodes' left' r
 
-  pub unsuited : (r : Simplified) → r ≡ Unsuited → Reading bytes from kinds counts arities starts fields subject used nodes nodes' r → Done left Unsuited
-  unsuited r e q =
+  pub unsuited : (u : Unsuited) (r : Result ℕ Unsuited) → IsErr r → Reading bytes from kinds counts arities starts fields subject used nodes nodes' (Err u) → Done left r
+  unsuited u (Ok count) i q = clash (cc)
+  unsuited u (Err v) i q =
       record {
         new = q.new;
         lefts = [];
@@ -117,22 +119,22 @@ module _ (bytes : List ℕ) (from : ℕ) (kinds counts arities starts fields : L
         left_are = refl;
         whole = q.whole;
         places = λ count h. clash (cc);
-        means = λ raws h table g. (subst (λ (x : Simplified). Answers bytes q.new (simplify table subject raws) x) e (q.means raws h table g), none_beside table (simplify table subject raws) (q.means raws h table g));
+        means = λ raws h table g. refused table (simplify table subject raws) (q.means raws h table g);
       }
     where
-      none_beside : (table : Table) (o : Option Row) → Answers bytes q.new o r → Beside used (length nodes) table o []
-      none_beside table none a = refl
-      none_beside table (some row) a = let f : refuse 8 ≡ ok (length row) = sym (ap said_simplified e) ∙ a.0 in clash (cc)
+      refused : (table : Table) (o : Option Row) → Answers bytes q.new o (Err u) → Answers bytes q.new o (Err v) × Beside used (length nodes) table o []
+      refused table none a = (a, refl)
+      refused table (some row) a = let f : refuse 8 ≡ ok (length row) = a.0 in clash (cc)
 
-  module _ (count : ℕ) (short : length nodes < 32768) (room : used ≤ length nodes) (r : Simplified) (e : r ≡ Kept count) (q : Reading bytes from kinds counts arities starts fields subject used nodes nodes' r) where
+  module _ (count : ℕ) (short : length nodes < 32768) (room : used ≤ length nodes) (q : Reading bytes from kinds counts arities starts fields subject used nodes nodes' (Ok count)) where
     len : count ≡ length q.new
-    len = q.counted count e
+    len = q.counted count refl
 
     row-length : (row : Row) → row_of bytes q.new ≡ row → length row ≡ count
     row-length row f = ap length (sym f) ∙ length-map q.new (node_of bytes) ∙ sym len
 
     -- no room: only counted
-    pub too_long : length nodes - used < count → Done left (Kept count)
+    pub too_long : length nodes - used < count → Done left (Ok count)
     too_long l =
         record {
           new = q.new;
@@ -140,16 +142,16 @@ module _ (bytes : List ℕ) (from : ℕ) (kinds counts arities starts fields : L
           nodes_are = q.nodes_are;
           left_are = refl;
           whole = q.whole;
-          places = λ n h. q.places count e;
-          means = λ raws h table g. (subst (λ (x : Simplified). Answers bytes q.new (simplify table subject raws) x) e (q.means raws h table g), no_room table (simplify table subject raws) (q.means raws h table g));
+          places = λ n h. q.places count refl;
+          means = λ raws h table g. (q.means raws h table g, no_room table (simplify table subject raws) (q.means raws h table g));
         }
       where
-        no_room : (table : Table) (o : Option Row) → Answers bytes q.new o r → Beside used (length nodes) table o []
+        no_room : (table : Table) (o : Option Row) → Answers bytes q.new o (Ok count) → Beside used (length nodes) table o []
         no_room table none a = refl
         no_room table (some row) a = (λ i. absurd (omega (arith, row-length row a.1)), λ i. refl)
 
     -- room for the nodes, and `left` beside them
-    pub kept : (left' : List ℕ) → count ≤ length nodes - used → left' ≡ sets left used (map low16 (lefts_of arities 1 (take count (drop used nodes')))) → Done left' (Kept count)
+    pub kept : (left' : List ℕ) → count ≤ length nodes - used → left' ≡ sets left used (map low16 (lefts_of arities 1 (take count (drop used nodes')))) → Done left' (Ok count)
     kept left' l f =
         record {
           new = q.new;
@@ -157,15 +159,15 @@ module _ (bytes : List ℕ) (from : ℕ) (kinds counts arities starts fields : L
           nodes_are = q.nodes_are;
           left_are = f ∙ ap (λ (ns : List ℕ). sets left used (map low16 (lefts_of arities 1 ns))) there;
           whole = q.whole;
-          places = λ n h. q.places count e;
-          means = λ raws h table g. (subst (λ (x : Simplified). Answers bytes q.new (simplify table subject raws) x) e (q.means raws h table g), beside table raws g (simplify table subject raws) refl (q.means raws h table g));
+          places = λ n h. q.places count refl;
+          means = λ raws h table g. (q.means raws h table g, beside table raws g (simplify table subject raws) refl (q.means raws h table g));
         }
       where
         there : take count (drop used nodes') ≡ q.new
         there = run-there nodes nodes' q.new used count q.nodes_are len (omega arith)
 
-        beside : (table : Table) (raws : List Raw) → Given kinds counts arities starts fields subject table → (o : Option Row) → simplify table subject raws ≡ o → Answers bytes q.new o r → Beside used (length nodes) table o (map low16 (lefts_of arities 1 q.new))
-        beside table raws g none i a = let f : ok count ≡ refuse 8 = sym (ap said_simplified e) ∙ a in clash (cc)
+        beside : (table : Table) (raws : List Raw) → Given kinds counts arities starts fields subject table → (o : Option Row) → simplify table subject raws ≡ o → Answers bytes q.new o (Ok count) → Beside used (length nodes) table o (map low16 (lefts_of arities 1 q.new))
+        beside table raws g none i a = let f : ok count ≡ refuse 8 = a in clash (cc)
         beside table raws g (some row) i a =
             let typed : Typed table (subject ∷ []) (row_of bytes q.new) = subst (λ (s : Row). Typed table (subject ∷ []) s) (sym a.1) (simplify-typed table subject raws row i) in (
               λ j. lefts-are table bytes kinds counts arities g.shape q.new (subject ∷ []) 1 typed refl (omega (arith, len)) ∙ ap₂ (λ (n : ℕ) (s : Row). take n (left_of table 1 s)) (sym len ∙ sym (row-length row a.1)) a.1,

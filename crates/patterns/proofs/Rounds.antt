@@ -17,10 +17,11 @@ use Rattle.layout.specs.Nodes.{node_of, row_of, Literals, done, places_in}
 use Rattle.nodes.proofs.Runs.{stores, literals_append, places_append}
 use Rattle.suits.specs.Raws.{raw_at, size_at, own_place}
 use Rattle.nodes.specs.Opens.{opens, pending, due}
-use Rattle.settle.specs.declared.Next.TheVariants.{Read as Next-as-Read, Done, Wrong}
+use Rattle.std.specs.Prelude.{Result, Ok, Err}
+use Rattle.std.specs.Result.{IsErr}
+use Rattle.settle.specs.Settled.{Read as Next-as-Read, Done}
+use Rattle.suits.specs.declared.Unsuited.{Unsuited}
 use Rattle.patterns.specs.Rows.{literal_places, Ready, Given, Turned, said_simplified, Answers, Reading}
-use Rattle.patterns.specs.declared.Simplified.{Simplified}
-use Rattle.patterns.specs.declared.Simplified.TheVariants.{Row as Kept, Unsuited}
 use Rattle.patterns.proofs.Scan.{read_step}
 use Rattle.patterns.proofs.Items.{onto, onto-none, onto-onto, put_all, read_one, read_none, read-end, Refs, nothing, refs_append, refs-after, refs-next, opened-refs}
 
@@ -53,6 +54,10 @@ module _ (bytes kinds counts arities starts fields : List ℕ) (from subject use
     pub high : depth ≤ at - from
     pub reads : patterns (suc (due (opens stack depth))) (drop at bytes) ≡ found left []
     pub means : (raws : List Raw) → patterns 1 (drop from bytes) ≡ found raws [] → (table : Table) → Given kinds counts arities starts fields subject table → Stands new left t (pending bytes fields (opens stack depth)) raws table
+
+  -- what was read stands in the nodes that the walk leaves
+  pub at-last : (last nodes' : List ℕ) (r : Result ℕ Unsuited) → last ≡ nodes' → Reading bytes from kinds counts arities starts fields subject used nodes nodes' r → Reading bytes from kinds counts arities starts fields subject used nodes last r
+  at-last last nodes' r e q = subst (λ (x : List ℕ). Reading bytes from kinds counts arities starts fields subject used nodes x r) (sym e) q
 
   module _ (stack₀ : List ℕ) (ready : Ready bytes from subject fields stack₀ nodes used) where
     -- before the first pattern
@@ -104,7 +109,7 @@ module _ (bytes kinds counts arities starts fields : List ℕ) (from subject use
 
       module _ (stack' nodes' : List ℕ) where
         -- one more round
-        pub round : (u d p : ℕ) → Turned bytes kinds counts arities starts fields at t depth place stack nodes₁ stack' nodes' (Next-as-Read u d p) → Going (at + size_at bytes at) u d p stack' nodes'
+        pub round : (u d p : ℕ) → Turned bytes kinds counts arities starts fields at t depth place stack nodes₁ stack' nodes' (Ok (Next-as-Read u d p)) → Going (at + size_at bytes at) u d p stack' nodes'
         round u d p q =
             let s = step in
             record {
@@ -138,15 +143,16 @@ module _ (bytes kinds counts arities starts fields : List ℕ) (from subject use
                       ∙ onto-onto bytes g.new q.new (simplified table (pat u ∷ pending bytes fields (opens stack' d)) step.0);
                 }
 
-        answers : (new : List ℕ) (o : Option Row) (r : Simplified) (row : Row) → o ≡ some row → row_of bytes new ≡ row → r ≡ Kept (length row) → Answers bytes new o r
+        answers : (new : List ℕ) (o : Option Row) (r : Result ℕ Unsuited) (row : Row) → o ≡ some row → row_of bytes new ≡ row → r ≡ Ok (length row) → Answers bytes new o r
         answers new o r row e f h = rw e (ap said_simplified h, f)
 
-        refuses : (new : List ℕ) (o : Option Row) → o ≡ none → Answers bytes new o Unsuited
-        refuses new o e = rw e refl
+        refuses : (u : Unsuited) (new : List ℕ) (o : Option Row) → o ≡ none → Answers bytes new o (Err u)
+        refuses u new o e = rw e refl
 
         -- a pattern that does not suit
-        pub wrong : Turned bytes kinds counts arities starts fields at t depth place stack nodes₁ stack' nodes' Wrong → Reading bytes from kinds counts arities starts fields subject used nodes nodes' Unsuited
-        wrong q =
+        pub wrong : (u : Unsuited) (r : Result ℕ Unsuited) → IsErr r → Turned bytes kinds counts arities starts fields at t depth place stack nodes₁ stack' nodes' (Err u) → Reading bytes from kinds counts arities starts fields subject used nodes nodes' r
+        wrong u (Ok count) i q = clash (cc)
+        wrong u (Err v) i q =
             let s = step in
             record {
               new = g.new ++ q.new;
@@ -154,7 +160,7 @@ module _ (bytes kinds counts arities starts fields : List ℕ) (from subject use
               whole = literals_append q.new g.whole (q.whole s.4);
               counted = λ count e. clash (cc);
               places = λ count e. clash (cc);
-              means = λ raws e table h. refuses (g.new ++ q.new) (simplify table subject raws) (none_of raws table h (g.means raws e table h));
+              means = λ raws e table h. refuses v (g.new ++ q.new) (simplify table subject raws) (none_of raws table h (g.means raws e table h));
             }
           where
             none_of : (raws : List Raw) (table : Table) → Given kinds counts arities starts fields subject table → Stands g.new g.left t (pending bytes fields (opens stack depth)) raws table → simplify table subject raws ≡ none
@@ -164,7 +170,7 @@ module _ (bytes kinds counts arities starts fields : List ℕ) (from subject use
                 ∙ read_none table t (pending bytes fields (opens stack depth)) (raw_at bytes at) step.0 (q.became table h.used h.shape h.fielded w.in_table))
 
         -- the last pattern
-        pub last : (p : ℕ) → Turned bytes kinds counts arities starts fields at t depth place stack nodes₁ stack' nodes' (Done p) → Reading bytes from kinds counts arities starts fields subject used nodes nodes' (Kept (p - used))
+        pub last : (p : ℕ) → Turned bytes kinds counts arities starts fields at t depth place stack nodes₁ stack' nodes' (Ok (Done p)) → Reading bytes from kinds counts arities starts fields subject used nodes nodes' (Ok (p - used))
         last p q =
             let s = step in
             record {
@@ -173,7 +179,7 @@ module _ (bytes kinds counts arities starts fields : List ℕ) (from subject use
               whole = literals_append q.new g.whole (q.whole s.4);
               counted = λ count e. let c : p - used ≡ count = cc in sym c ∙ counts_all;
               places = λ count e raws h. all-places ∙ more-places q.new q.places ∙ g.places raws h;
-              means = λ raws e table h. answers (g.new ++ q.new) (simplify table subject raws) (Kept (p - used)) (row_of bytes (g.new ++ q.new)) (some_of raws table h (g.means raws e table h)) refl (ap Kept (counts_all ∙ sym (length-map (g.new ++ q.new) (node_of bytes))));
+              means = λ raws e table h. answers (g.new ++ q.new) (simplify table subject raws) (Ok (p - used)) (row_of bytes (g.new ++ q.new)) (some_of raws table h (g.means raws e table h)) refl (ap Ok (counts_all ∙ sym (length-map (g.new ++ q.new) (node_of bytes))));
             }
           where
             counts_all : p - used ≡ length (g.new ++ q.new)

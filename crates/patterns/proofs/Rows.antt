@@ -20,7 +20,8 @@ use Rattle.layout.specs.Types.{text_at}
 use Rattle.layout.specs.Nodes.{literal_at, node_of, row_of, left_of, LiteralStands, Literals, done, also}
 use Rattle.layout.specs.Nodes as Nodes
 use Rattle.patterns.specs.Rows.{Given, Answers, Beside, Simplifies, RowAt}
-use Rattle.patterns.specs.declared.Simplified.{Simplified}
+use Rattle.std.specs.Prelude.{Result}
+use Rattle.suits.specs.declared.Unsuited.{Unsuited}
 use Rattle.patterns.proofs.Beside.{run-there}
 
 -- stores from a place on keep what is before it
@@ -58,7 +59,7 @@ run-closed d d' d'' vs used n e m l f =
     let one : d'' ≡ sets d used (vs ++ 0 ∷ []) = f ∙ ap₂ (λ (s : List ℕ) (k : ℕ). set s (used + k) 0) e m ∙ sets-sets vs (0 ∷ []) d used in
     run-there d d'' (vs ++ 0 ∷ []) used (suc n) one (ap suc m ∙ sym (length-append vs (0 ∷ []) ∙ add-one (length vs))) (omega arith)
 
-module _ {bytes : List ℕ} {from : ℕ} {kinds counts arities starts fields : List ℕ} {subject used : ℕ} {nodes left nodes' left' : List ℕ} {r : Simplified} (s : Simplifies bytes from kinds counts arities starts fields subject used nodes left nodes' left' r) where
+module _ {bytes : List ℕ} {from : ℕ} {kinds counts arities starts fields : List ℕ} {subject used : ℕ} {nodes left nodes' left' : List ℕ} {r : Result ℕ Unsuited} (s : Simplifies bytes from kinds counts arities starts fields subject used nodes left nodes' left' r) where
   -- what stands before `used` is kept
   nodes-before : take used nodes' ≡ take used nodes
   nodes-before = ap (take used) s.nodes_are ∙ sets-before s.new nodes used used (omega arith)

@@ -222,22 +222,6 @@ module _ (bytes : List ℕ) (at : ℕ) where
         omega (arith, f.some, f.inside, size-shift, length-drop at bytes),
       )
 
--- the size by the kind
-pub sized : (w l k : ℕ) → w ≡ k → size_of k l ≡ size_of w l
-sized w l k e = rw e
-
--- a kind that is none of 0 to 7
-pub sized-last : (w l : ℕ) → (w ≡ 0 → ⊥) → (w ≡ 1 → ⊥) → (w ≡ 2 → ⊥) → (w ≡ 3 → ⊥) → (w ≡ 4 → ⊥) → (w ≡ 5 → ⊥) → (w ≡ 6 → ⊥) → (w ≡ 7 → ⊥) → 2 ≡ size_of w l
-sized-last zero l a b c d e f g h = absurd (a refl)
-sized-last (suc zero) l a b c d e f g h = absurd (b refl)
-sized-last (suc (suc zero)) l a b c d e f g h = absurd (c refl)
-sized-last (suc (suc (suc zero))) l a b c d e f g h = absurd (d refl)
-sized-last (suc (suc (suc (suc zero)))) l a b c d e f g h = absurd (e refl)
-sized-last (suc (suc (suc (suc (suc zero))))) l a b c d e f g h = absurd (f refl)
-sized-last (suc (suc (suc (suc (suc (suc zero)))))) l a b c d e f g h = absurd (g refl)
-sized-last (suc (suc (suc (suc (suc (suc (suc zero))))))) l a b c d e f g h = absurd (h refl)
-sized-last (suc (suc (suc (suc (suc (suc (suc (suc x)))))))) l a b c d e f g h = refl
-
 -- the size at a place
 pub size-at : (bytes : List ℕ) (at w l r : ℕ) → w ≡ get_or bytes at 0 → l ≡ get_or bytes (at + 1) 0 → r ≡ size_of w l → at + r ≡ at + size_at bytes at
 unfolding size_at

@@ -22,15 +22,17 @@ use Rattle.nodes.proofs.Numbers.{key-node}
 use Rattle.suits.specs.Raws.{raw_at, size_at, own_place}
 use Rattle.suits.specs.Suits.{suit_at, meant, Sound}
 use Rattle.suits.specs.declared.Suit.{Suit}
-use Rattle.suits.specs.declared.Suit.TheVariants.{Leaf, Again, Cells, Args, Unfit}
+use Rattle.suits.specs.declared.Suit.TheVariants.{Leaf, Again, Cells, Args}
 use Rattle.suits.proofs.Facts.{list_facts}
 use Rattle.suits.proofs.Suiting.{Counted, counted, agree}
 use Rattle.nodes.specs.Opens.{opening, mark_of, field_items, list_items, items_of, wanted, opens, pending, due}
 use Rattle.nodes.specs.declared.Open.{Open}
-use Rattle.settle.specs.Settled.{rest_of, Due, Ends, Settled}
-use Rattle.settle.specs.declared.Next.{Next}
-use Rattle.settle.specs.declared.Next.TheVariants.{Read, Done, Wrong}
-use Rattle.patterns.specs.Rows.{Became, Unless, Turned}
+use Rattle.std.specs.Prelude.{Option as Answer, Result, Ok, Err}
+use Rattle.std.specs.Result.{IsErr}
+use Rattle.scope.proofs.Tests.{clash}
+use Rattle.settle.specs.Settled.{Next, Read, Done, rest_of, Due, Ends, Settled}
+use Rattle.suits.specs.declared.Unsuited.{Unsuited}
+use Rattle.patterns.specs.Rows.{turned_to, Became, Turned}
 
 -- the types of fields that stand among the fields
 field-items : (k : ℕ) (fields : List ℕ) (start : ℕ) → start + k ≤ length fields → length fields ≤ 65536 → field_items k fields start ≡ map pat (take k (drop start fields))
@@ -116,14 +118,14 @@ module _ (bytes kinds counts arities starts fields : List ℕ) (at t depth place
   -- the nodes xs are put, then fs settled
   turn-settled : (xs nodes₁ stack' nodes' : List ℕ) (fs : List Open) (h from : ℕ) (r : Next) → nodes₁ ≡ sets nodes place xs → from ≡ place + length xs → length xs ≤ 1 → h ≤ depth + 1
       → (at + size_at bytes at ≤ length bytes → Literals bytes xs) → places_in xs ≡ own_place at (raw_at bytes at) → inner (raw_at bytes at) + due (opens stack depth) ≡ due fs → Puts xs fs → Settled bytes fields fs h from nodes₁ stack' nodes' r
-      → Turned bytes kinds counts arities starts fields at t depth place stack nodes stack' nodes' r
+      → Turned bytes kinds counts arities starts fields at t depth place stack nodes stack' nodes' (Ok r)
   turn-settled xs nodes₁ stack' nodes' fs h from r e f l m lits pl d p s =
       record {
         new = xs ++ s.new;
         nodes_are = stores nodes nodes₁ nodes' xs s.new place from e f s.nodes_are;
         few = rw (length-append xs s.new) (omega (arith, s.few));
         whole = λ i. literals_append s.new (lits i) s.whole;
-        places = places-more r;
+        places = all-places;
         ends = ends_more r s.ends;
         due_is = due-more r s.due_is;
         became = λ table used shape fielded here. became-more r s.items s.due_is (p table used shape fielded here);
@@ -135,38 +137,31 @@ module _ (bytes kinds counts arities starts fields : List ℕ) (at t depth place
       all-places : places_in (xs ++ s.new) ≡ own_place at (raw_at bytes at)
       all-places = places_append xs s.new ∙ ap₂ ◌++◌ pl s.plain ∙ append-nil (own_place at (raw_at bytes at))
 
-      places-more : (x : Next) → Unless x (places_in (xs ++ s.new) ≡ own_place at (raw_at bytes at))
-      places-more (Read u d p) = all-places
-      places-more (Done p) = all-places
-      places-more Wrong = tt
-
       ends_more : (x : Next) → Ends (from + length s.new) h x → Ends (place + length (xs ++ s.new)) (depth + 1) x
       ends_more (Read u d p) q = (q.0 ∙ whole_length, q.1, omega (arith, q.2))
       ends_more (Done p) q = q ∙ whole_length
-      ends_more Wrong q = tt
 
-      due-more : (x : Next) → Due (due fs) stack' x → Unless x (Due (inner (raw_at bytes at) + due (opens stack depth)) stack' x)
+      due-more : (x : Next) → Due (due fs) stack' x → Due (inner (raw_at bytes at) + due (opens stack depth)) stack' x
       due-more (Read u k p) q = d ∙ q
       due-more (Done p) q = d ∙ q
-      due-more Wrong q = tt
 
       became-more : {o : Option (List Item)} (x : Next) → pending bytes fields fs ≡ map put (row_of bytes s.new) ++ rest_of bytes fields stack' x → Due (due fs) stack' x
           → (is : List Item) × (o ≡ some is) × (is ++ pending bytes fields (opens stack depth) ≡ map put (row_of bytes xs) ++ pending bytes fields fs)
-          → Became o (pending bytes fields (opens stack depth)) bytes fields (xs ++ s.new) stack' x
+          → Became o (pending bytes fields (opens stack depth)) bytes fields (xs ++ s.new) stack' (Ok x)
       became-more (Read u k p) q z w = (w.0, w.1, w.2 ∙ ap (λ (is : List Item). map put (row_of bytes xs) ++ is) q ∙ puts_append bytes xs s.new (rest_of bytes fields stack' (Read u k p)))
       became-more (Done p) q z w = (w.0, w.1, w.2 ∙ ap (λ (is : List Item). map put (row_of bytes xs) ++ is) q ∙ puts_append bytes xs s.new [])
-      became-more Wrong q z w = absurd z
 
-  module _ (small : (i : ℕ) → get_or bytes i 0 < 256) (narrow : (i : ℕ) → get_or arities i 0 < 256) (low : at < 32768) (sound : t < 16384) (short : length fields ≤ 65536) where
+  module _ (low : at < 32768) (sound : t < 16384) (short : length fields ≤ 65536) where
     -- what is known of an answer
-    pub known : (s : Suit) → s ≡ suit_at bytes at kinds counts arities t → Counted bytes at s (raw_at bytes at)
-    known s e = subst (λ (x : Suit). Counted bytes at x (raw_at bytes at)) (sym e) (counted bytes kinds counts arities at t small narrow)
+    known : (s : Result Suit Unsuited) → s ≡ suit_at bytes at kinds counts arities t → Counted bytes at s (raw_at bytes at)
+    known s e = subst (λ (x : Result Suit Unsuited). Counted bytes at x (raw_at bytes at)) (sym e) (counted bytes kinds counts arities at t)
 
-    meaning : (s : Suit) → s ≡ suit_at bytes at kinds counts arities t → (table : Table) → Shape kinds counts arities table → t < length table → (meant table bytes t s ≡ opened table t (raw_at bytes at)) × Sound table t s
-    meaning s e table shape here = subst (λ (x : Suit). (meant table bytes t x ≡ opened table t (raw_at bytes at)) × Sound table t x) (sym e) (agree bytes kinds counts arities at t table shape here low)
+    meaning : (s : Result Suit Unsuited) → s ≡ suit_at bytes at kinds counts arities t → (table : Table) → Shape kinds counts arities table → t < length table → (meant table bytes t s ≡ opened table t (raw_at bytes at)) × Sound table t s
+    meaning s e table shape here = subst (λ (x : Result Suit Unsuited). (meant table bytes t x ≡ opened table t (raw_at bytes at)) × Sound table t x) (sym e) (agree bytes kinds counts arities at t table shape here low)
 
-    pub turn_unfit : Unfit ≡ suit_at bytes at kinds counts arities t → Turned bytes kinds counts arities starts fields at t depth place stack nodes stack nodes Wrong
-    turn_unfit e =
+    pub turn_unfit : (u : Unsuited) (r : Result (Answer ℕ) Unsuited) → IsErr r → Err u ≡ suit_at bytes at kinds counts arities t → Turned bytes kinds counts arities starts fields at t depth place stack nodes stack nodes (turned_to r depth place)
+    turn_unfit u (Ok o) h e = clash (cc)
+    turn_unfit u (Err v) h e =
         record {
           new = [];
           nodes_are = refl;
@@ -175,71 +170,71 @@ module _ (bytes kinds counts arities starts fields : List ℕ) (at t depth place
           places = tt;
           ends = tt;
           due_is = tt;
-          became = λ table used shape fielded here. sym (meaning Unfit e table shape here).0;
+          became = λ table used shape fielded here. sym (meaning (Err u) e table shape here).0;
         }
 
-    pub turn-again : Again ≡ suit_at bytes at kinds counts arities t → Turned bytes kinds counts arities starts fields at t depth place stack nodes stack nodes (Read t depth place)
+    pub turn-again : Ok Again ≡ suit_at bytes at kinds counts arities t → Turned bytes kinds counts arities starts fields at t depth place stack nodes stack nodes (Ok (Read t depth place))
     turn-again e =
         record {
           new = [];
           nodes_are = refl;
           few = omega arith;
           whole = λ i. done;
-          places = no_places ∙ sym (known Again e).1;
+          places = no_places ∙ sym (known (Ok Again) e).1;
           ends = (sym (add-zero place), sound, omega arith);
-          due_is = omega (arith, (known Again e).0);
-          became = λ table used shape fielded here. (pat t ∷ [], sym (meaning Again e table shape here).0, refl);
+          due_is = omega (arith, (known (Ok Again) e).0);
+          became = λ table used shape fielded here. (pat t ∷ [], sym (meaning (Ok Again) e table shape here).0, refl);
         }
 
-    pub turn-leaf : (n : ℕ) (stack' nodes' : List ℕ) (r : Next) → Leaf n ≡ suit_at bytes at kinds counts arities t
-        → Settled bytes fields (opens stack depth) depth (place + 1) (set nodes place n) stack' nodes' r → Turned bytes kinds counts arities starts fields at t depth place stack nodes stack' nodes' r
+    pub turn-leaf : (n : ℕ) (stack' nodes' : List ℕ) (r : Next) → Ok (Leaf n) ≡ suit_at bytes at kinds counts arities t
+        → Settled bytes fields (opens stack depth) depth (place + 1) (set nodes place n) stack' nodes' r → Turned bytes kinds counts arities starts fields at t depth place stack nodes stack' nodes' (Ok r)
     turn-leaf n stack' nodes' r e s =
-        let k = known (Leaf n) e in
+        let k = known (Ok (Leaf n)) e in
         turn-settled (n ∷ []) (set nodes place n) stack' nodes' (opens stack depth) depth (place + 1) r refl refl (omega arith) (omega arith)
         (λ i. also (λ h. subst (λ (x : ℕ). LiteralStands bytes x) (place_is k h) (record { known = (k.2 h).2; whole = omega (arith, (k.2 h).1) })) done)
         (k.1 ∙ ap (λ (x : ℕ). own_place x (raw_at bytes at)) here-is)
         (omega (arith, k.0))
-        (λ table used shape fielded here. (put (node_of bytes n) ∷ [], sym (meaning (Leaf n) e table shape here).0, refl))
+        (λ table used shape fielded here. (put (node_of bytes n) ∷ [], sym (meaning (Ok (Leaf n)) e table shape here).0, refl))
         s
       where
-        place_is : Counted bytes at (Leaf n) (raw_at bytes at) → 32768 ≤ n → at ≡ n - 32768
+        place_is : Counted bytes at (Ok (Leaf n)) (raw_at bytes at) → 32768 ≤ n → at ≡ n - 32768
         place_is k h = omega (arith, (k.2 h).0)
 
         here-is : at % 32768 ≡ at
         here-is = omega arith
 
-    pub turn-cells : (k start : ℕ) (tail : Bool) (o : Open) (stack' nodes' : List ℕ) (r : Next) → Cells k tail ≡ suit_at bytes at kinds counts arities t → start ≡ get_or starts (32 * t) 0
+    pub turn-cells : (k start : ℕ) (tail : Bool) (o : Open) (stack' nodes' : List ℕ) (r : Next) → k < 256 → Ok (Cells k tail) ≡ suit_at bytes at kinds counts arities t → start ≡ get_or starts (32 * t) 0
         → o ≡ opening (mark_of t tail) (low16 k) start → Settled bytes fields (o ∷ opens stack depth) (depth + 1) place nodes stack' nodes' r
-        → Turned bytes kinds counts arities starts fields at t depth place stack nodes stack' nodes' r
-    turn-cells k start tail o stack' nodes' r e f o_is s =
-        let n = known (Cells k tail) e in
-        let k' : low16 k ≡ k = omega (arith, n.2) in
+        → Turned bytes kinds counts arities starts fields at t depth place stack nodes stack' nodes' (Ok r)
+    turn-cells k start tail o stack' nodes' r few e f o_is s =
+        let n = known (Ok (Cells k tail)) e in
+        let k' : low16 k ≡ k = omega (arith, few) in
         let o' : o ≡ opening (mark_of t tail) k start = o_is ∙ ap (λ (x : ℕ). opening (mark_of t tail) x start) k' in
         turn-settled [] nodes stack' nodes' (o ∷ opens stack depth) (depth + 1) place r refl (sym (add-zero place)) (omega arith) (omega arith)
         (λ i. done)
         (no_places ∙ sym n.1)
         (rw (o', due-cons (opening (mark_of t tail) k start) (opens stack depth), cells-wanted t k tail, n.0) refl)
         (λ table used shape fielded here.
-        let m = meaning (Cells k tail) e table shape here in
+        let m = meaning (Ok (Cells k tail)) e table shape here in
         (element_items t (get_or (fields_at table t 0) 0 0) k tail, sym m.0, ap (λ (is : List Item). is ++ pending bytes fields (opens stack depth)) (sym (cells-items kinds counts arities starts fields table used shape fielded t here short bytes k start tail m.1 f)) ∙ sym (pending-cons bytes fields (opening (mark_of t tail) k start) (opens stack depth)) ∙ ap (λ (x : Open). pending bytes fields (x ∷ opens stack depth)) (sym o')))
         s
 
-    pub turn-args : (c k w start node from : ℕ) (o : Open) (nodes₁ stack' nodes' : List ℕ) (r : Next) → Args c k w ≡ suit_at bytes at kinds counts arities t → start ≡ get_or starts (32 * t + c) 0
+    pub turn-args : (c k w start node from : ℕ) (o : Open) (nodes₁ stack' nodes' : List ℕ) (r : Next) → (c < 256) × (k < 256) × (w < 256) → Ok (Args c k w) ≡ suit_at bytes at kinds counts arities t → start ≡ get_or starts (32 * t + c) 0
         → node ≡ key_of t c → nodes₁ ≡ set nodes place node → from ≡ place + 1
         → o ≡ opening (low16 w) (low16 k) start → Settled bytes fields (o ∷ opens stack depth) (depth + 1) from nodes₁ stack' nodes' r
-        → Turned bytes kinds counts arities starts fields at t depth place stack nodes stack' nodes' r
-    turn-args c k w start node from o nodes₁ stack' nodes' r e f g h i o_is s =
-        let n = known (Args c k w) e in
-        let k' : low16 k ≡ k = omega (arith, n.3) in
-        let w' : low16 w ≡ w = omega (arith, n.4) in
+        → Turned bytes kinds counts arities starts fields at t depth place stack nodes stack' nodes' (Ok r)
+    turn-args c k w start node from o nodes₁ stack' nodes' r few e f g h i o_is s =
+        let n = known (Ok (Args c k w)) e in
+        let k' : low16 k ≡ k = omega (arith, few.1) in
+        let w' : low16 w ≡ w = omega (arith, few.2) in
         let o' : o ≡ opening w k start = o_is ∙ ap₂ (λ (x y : ℕ). opening x y start) w' k' in
         turn-settled (node ∷ []) nodes₁ stack' nodes' (o ∷ opens stack depth) (depth + 1) from r h i (omega arith) (omega arith)
         (λ j. also {n = node} (λ l. absurd (omega arith)) done)
         (plain-one node (omega arith) ∙ sym n.1)
-        (rw (o', due-cons (opening w k start) (opens stack depth), args-wanted w k n.4, n.0) refl)
+        (rw (o', due-cons (opening w k start) (opens stack depth), args-wanted w k few.2, n.0) refl)
         (λ table used shape fielded here.
-        let m = meaning (Args c k w) e table shape here in
-        let items = args-items kinds counts arities starts fields table used shape fielded t here short bytes c k w start m.1.0 m.1.1 n.4 f in
+        let m = meaning (Ok (Args c k w)) e table shape here in
+        let items = args-items kinds counts arities starts fields table used shape fielded t here short bytes c k w start m.1.0 m.1.1 few.2 f in
         let key : node_of bytes node ≡ con t c = ap (node_of bytes) g ∙ key-node bytes t c (omega (arith, shape.few)) (omega (arith, shape.in_type t, m.1.0)) in
         (put (con t c) ∷ (map pat (take k (fields_at table t c)) ++ replicate w (put wild)), sym m.0, ap₂ (λ (x : Node) (is : List Item). put x ∷ (is ++ pending bytes fields (opens stack depth))) (sym key) (sym items) ∙ ap (λ (is : List Item). put (node_of bytes node) ∷ is) (sym (pending-cons bytes fields (opening w k start) (opens stack depth)) ∙ ap (λ (x : Open). pending bytes fields (x ∷ opens stack depth)) (sym o'))))
         s

@@ -1,5 +1,6 @@
 -- The row that `simplify` stores: its nodes, `left` beside them, and what its answer says.
-use Rattle.std.specs.Prelude.{◌≡◌, true, List, [], ◌∷◌, ◌++◌, map, ℕ, ◌+◌, ◌*◌, ◌≤◌, ◌<◌, length, take, drop}
+use Rattle.std.specs.Prelude.{◌≡◌, true, List, [], ◌∷◌, ◌++◌, map, ℕ, ◌+◌, ◌*◌, ◌≤◌, ◌<◌, length, take, drop, Result, Ok, Err}
+use Rattle.std.specs.Prelude.{Option as Answer}
 use Rattle.std.proofs.Math.Option.{Option, none, some}
 use Rattle.std.proofs.lemmas.List.Edits.{sets}
 use Rattle.scope.specs.Types.{Table}
@@ -12,11 +13,8 @@ use Rattle.layout.specs.Types.{Shape, Fielded}
 use Rattle.layout.specs.Nodes.{row_of, left_of, Literals, places_in, StandsAt}
 use Rattle.suits.specs.Raws.{raw_at, size_at, own_place}
 use Rattle.nodes.specs.Opens.{opens, pending, due}
-use Rattle.settle.specs.Settled.{rest_of, Due, Ends}
-use Rattle.settle.specs.declared.Next.{Next}
-use Rattle.settle.specs.declared.Next.TheVariants.{Read, Done, Wrong}
-use Rattle.patterns.specs.declared.Simplified.{Simplified}
-use Rattle.patterns.specs.declared.Simplified.TheVariants.{Row as Kept, Unsuited}
+use Rattle.settle.specs.Settled.{Next, Read, Done, came_to, rest_of, Due, Ends}
+use Rattle.suits.specs.declared.Unsuited.{Unsuited}
 
 -- the bytes from a place on are one pattern and nothing after it: the line's shape has been checked
 pub record Shaped (bytes : List ℕ) (from : ℕ) : Type 0 where
@@ -48,47 +46,51 @@ pub record Given (kinds counts arities starts fields : List ℕ) (subject : ℕ)
   pub in_table : subject < length table
   pub good : refs_good table ≡ true
 
--- what the pattern at a place has become, before the items after it: it suits its type and the nodes were put, or it does not
-abbrev pub Became : Option (List Item) → List Item → List ℕ → List ℕ → List ℕ → List ℕ → Next → Type 0
-Became o after bytes fields new stack (Read t depth place) = (is : List Item) × (o ≡ some is) × (is ++ after ≡ map put (row_of bytes new) ++ rest_of bytes fields stack (Read t depth place))
-Became o after bytes fields new stack (Done place) = (is : List Item) × (o ≡ some is) × (is ++ after ≡ map put (row_of bytes new) ++ [])
-Became o after bytes fields new stack Wrong = o ≡ none
+-- what one turn answers, by the walk after it
+abbrev pub turned_to : Result (Answer ℕ) Unsuited → ℕ → ℕ → Result Next Unsuited
+turned_to (Ok o) depth place = Ok (came_to o depth place)
+turned_to (Err e) depth place = Err e
 
--- a fact, if the step found no fault
-abbrev pub Unless : Next → Type 0 → Type 0
-Unless (Read t depth place) P = P
-Unless (Done place) P = P
-Unless Wrong P = Unit {0}
+-- what the pattern at a place has become, before the items after it: it suits its type and the nodes were put, or it does not
+abbrev pub Became : Option (List Item) → List Item → List ℕ → List ℕ → List ℕ → List ℕ → Result Next Unsuited → Type 0
+Became o after bytes fields new stack (Ok (Read t depth place)) = (is : List Item) × (o ≡ some is) × (is ++ after ≡ map put (row_of bytes new) ++ rest_of bytes fields stack (Read t depth place))
+Became o after bytes fields new stack (Ok (Done place)) = (is : List Item) × (o ≡ some is) × (is ++ after ≡ map put (row_of bytes new) ++ [])
+Became o after bytes fields new stack (Err e) = o ≡ none
+
+-- a fact of where it has come to, if the pattern suits
+abbrev pub Unless : Result Next Unsuited → (Next → Type 0) → Type 0
+Unless (Ok n) P = P n
+Unless (Err e) P = Unit {0}
 
 -- one pattern read at type t, and the nodes up to the next put from `place` on
-pub record Turned (bytes kinds counts arities starts fields : List ℕ) (at t depth place : ℕ) (stack nodes stack' nodes' : List ℕ) (r : Next) : Type 0 where
+pub record Turned (bytes kinds counts arities starts fields : List ℕ) (at t depth place : ℕ) (stack nodes stack' nodes' : List ℕ) (r : Result Next Unsuited) : Type 0 where
   pub new : List ℕ
   pub nodes_are : nodes' ≡ sets nodes place new
   pub few : length new ≤ 65536 * (depth + 1) + 2
   pub whole : at + size_at bytes at ≤ length bytes → Literals bytes new
-  pub places : Unless r (places_in new ≡ own_place at (raw_at bytes at))
-  pub ends : Ends (place + length new) (depth + 1) r
-  pub due_is : Unless r (Due (inner (raw_at bytes at) + due (opens stack depth)) stack' r)
+  pub places : Unless r (λ n. places_in new ≡ own_place at (raw_at bytes at))
+  pub ends : Unless r (Ends (place + length new) (depth + 1))
+  pub due_is : Unless r (Due (inner (raw_at bytes at) + due (opens stack depth)) stack')
   pub became : (table : Table) (used : ℕ) → Shape kinds counts arities table → Fielded starts fields used table → t < length table
       → Became (opened table t (raw_at bytes at)) (pending bytes fields (opens stack depth)) bytes fields new stack' r
 
 -- document 01's number and values for each case: the count of the row's nodes; 8
-abbrev pub said_simplified : Simplified → Step ℕ
-said_simplified (Kept count) = ok count
-said_simplified Unsuited = refuse 8
+abbrev pub said_simplified : Result ℕ Unsuited → Step ℕ
+said_simplified (Ok count) = ok count
+said_simplified (Err e) = refuse 8
 
 -- the answer for what a definition of `simplify` gives: the row was put, and its length counted; or 8
-abbrev pub Answers : List ℕ → List ℕ → Option Row → Simplified → Type 0
+abbrev pub Answers : List ℕ → List ℕ → Option Row → Result ℕ Unsuited → Type 0
 Answers bytes new none r = said_simplified r ≡ refuse 8
 Answers bytes new (some row) r = (said_simplified r ≡ ok (length row)) × (row_of bytes new ≡ row)
 
 -- the nodes of the pattern from a place on, put from `used` on
-pub record Reading (bytes : List ℕ) (from : ℕ) (kinds counts arities starts fields : List ℕ) (subject used : ℕ) (nodes nodes' : List ℕ) (r : Simplified) : Type 0 where
+pub record Reading (bytes : List ℕ) (from : ℕ) (kinds counts arities starts fields : List ℕ) (subject used : ℕ) (nodes nodes' : List ℕ) (r : Result ℕ Unsuited) : Type 0 where
   pub new : List ℕ
   pub nodes_are : nodes' ≡ sets nodes used new
   pub whole : Literals bytes new
-  pub counted : (count : ℕ) → r ≡ Kept count → count ≡ length new
-  pub places : (count : ℕ) → r ≡ Kept count → (raws : List Raw) → patterns 1 (drop from bytes) ≡ found raws [] → places_in new ≡ literal_places bytes from raws
+  pub counted : (count : ℕ) → r ≡ Ok count → count ≡ length new
+  pub places : (count : ℕ) → r ≡ Ok count → (raws : List Raw) → patterns 1 (drop from bytes) ≡ found raws [] → places_in new ≡ literal_places bytes from raws
   pub means : (raws : List Raw) → patterns 1 (drop from bytes) ≡ found raws [] → (table : Table) → Given kinds counts arities starts fields subject table → Answers bytes new (simplify table subject raws) r
 
 -- `left` beside a row that has room, and nothing where there is none
@@ -97,13 +99,13 @@ Beside used size table none lefts = lefts ≡ []
 Beside used size table (some row) lefts = (used + length row ≤ size → lefts ≡ take (length row) (left_of table 1 row)) × (size < used + length row → lefts ≡ [])
 
 -- the pattern from a place on as a row from `used` on: what is answered, and what stands in `nodes` and `left` afterwards
-pub record Simplifies (bytes : List ℕ) (from : ℕ) (kinds counts arities starts fields : List ℕ) (subject used : ℕ) (nodes left nodes' left' : List ℕ) (r : Simplified) : Type 0 where
+pub record Simplifies (bytes : List ℕ) (from : ℕ) (kinds counts arities starts fields : List ℕ) (subject used : ℕ) (nodes left nodes' left' : List ℕ) (r : Result ℕ Unsuited) : Type 0 where
   pub new : List ℕ
   pub lefts : List ℕ
   pub nodes_are : nodes' ≡ sets nodes used new
   pub left_are : left' ≡ sets left used lefts
   pub whole : Literals bytes new
-  pub places : (count : ℕ) → r ≡ Kept count → (raws : List Raw) → patterns 1 (drop from bytes) ≡ found raws [] → places_in new ≡ literal_places bytes from raws
+  pub places : (count : ℕ) → r ≡ Ok count → (raws : List Raw) → patterns 1 (drop from bytes) ≡ found raws [] → places_in new ≡ literal_places bytes from raws
   pub means : (raws : List Raw) → patterns 1 (drop from bytes) ≡ found raws [] → (table : Table) → Given kinds counts arities starts fields subject table → Answers bytes new (simplify table subject raws) r × Beside used (length nodes) table (simplify table subject raws) lefts
 
 -- a row stands at a place, and its literals whole among the bytes

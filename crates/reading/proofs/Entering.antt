@@ -28,12 +28,12 @@ use Rattle.fresh.proofs.FreshMeans.{fresh-means}
 use Rattle.sound.proofs.SoundMeans.{sound-means}
 use Rattle.sound.specs.Sound.{is_sound_in}
 use Rattle.patterns.specs.Rows.{RowAt, Given, Answers, Simplifies}
-use Rattle.patterns.specs.declared.Simplified.{Simplified}
-use Rattle.patterns.specs.declared.Simplified.TheVariants.{Row as Kept, Unsuited}
+use Rattle.std.specs.Prelude.{Result, Ok, Err}
+use Rattle.scope.specs.declared.refusal.Refusal.{Refusal}
+use Rattle.suits.specs.declared.Unsuited.{Unsuited}
 use Rattle.patterns.proofs.Rows.{nodes-closed, left-closed, row-stands, row_kept}
 use Rattle.order.specs.declared.State.{State}
 use Rattle.order.specs.Phases.{phase_of}
-use Rattle.reading.specs.declared.line.Step.{Step}
 use Rattle.reading.specs.Said.{Held, held, Sized, InPhase, Rows, Says, said_step, Stepped, goes, stops}
 use Rattle.reading.specs.Enters.{EntersCtor, stale, fresh, EntersSubject, unsound, sound, EntersClause, unsuited, over, row, Ended}
 
@@ -64,11 +64,11 @@ last_row [] r = refl
 last_row (q ∷ m) r = last_row m r
 
 -- 8 and 9, by what `simplify` gives
-unsuited-steps : {h : Held} (bytes new : List ℕ) (f : Row → scope.Step scope.State) (o : Option Row) → Answers bytes new o Unsuited → Stepped h (refuse 8) (suited o >>= f)
+unsuited-steps : {h : Held} {e : Unsuited} (bytes new : List ℕ) (f : Row → scope.Step scope.State) (o : Option Row) → Answers bytes new o (Err e) → Stepped h (refuse 8) (suited o >>= f)
 unsuited-steps bytes new f none a = stops 8
 unsuited-steps bytes new f (some r) a = let e : refuse 8 ≡ ok (length r) = a.0 in clash (cc)
 
-over-steps : {h : Held} (bytes new : List ℕ) (n : ℕ) (b : Block) (o : Option Row) → Answers bytes new o (Kept n) → leb (nodes_in b.rows + n) 4096 ≡ false → Stepped h (refuse 9) (suited o >>= (λ r. need 9 (leb (nodes_in b.rows + length r) 4096) >>= (λ _. ok (with_row b r))))
+over-steps : {h : Held} (bytes new : List ℕ) (n : ℕ) (b : Block) (o : Option Row) → Answers bytes new o (Ok n) → leb (nodes_in b.rows + n) 4096 ≡ false → Stepped h (refuse 9) (suited o >>= (λ r. need 9 (leb (nodes_in b.rows + length r) 4096) >>= (λ _. ok (with_row b r))))
 over-steps bytes new n b none a l = let e : ok n ≡ refuse 8 = a in clash (cc)
 over-steps bytes new n b (some r) a l =
     let e : ok n ≡ ok (length r) = a.0 in
@@ -76,7 +76,7 @@ over-steps bytes new n b (some r) a l =
     let f : leb (nodes_in b.rows + length r) 4096 ≡ false = ap (λ (k : ℕ). leb (nodes_in b.rows + k) 4096) (sym i) ∙ l in
     rw f (stops 9)
 
-row-steps : {h : Held} (bytes new : List ℕ) (n : ℕ) (b : Block) (o : Option Row) (s : State) → Answers bytes new o (Kept n) → leb (nodes_in b.rows + n) 4096 ≡ true → ((r : Row) → o ≡ some r → n ≡ length r → Says h s (with_row b r))
+row-steps : {h : Held} (bytes new : List ℕ) (n : ℕ) (b : Block) (o : Option Row) (s : State) → Answers bytes new o (Ok n) → leb (nodes_in b.rows + n) 4096 ≡ true → ((r : Row) → o ≡ some r → n ≡ length r → Says h s (with_row b r))
     → Stepped h (ok s) (suited o >>= (λ r. need 9 (leb (nodes_in b.rows + length r) 4096) >>= (λ _. ok (with_row b r))))
 row-steps bytes new n b none s a l k = let e : ok n ≡ refuse 8 = a in clash (cc)
 row-steps bytes new n b (some r) s a l k =
@@ -86,8 +86,8 @@ row-steps bytes new n b (some r) s a l k =
     rw f (goes (k r refl i))
 
 -- by what was answered
-pub simplified_as : {bytes : List ℕ} {at : ℕ} {kinds counts arities starts fields : List ℕ} {subject used : ℕ} {nodes left nodes₁ left₁ : List ℕ} {r v : Simplified} → r ≡ v → Simplifies bytes at kinds counts arities starts fields subject used nodes left nodes₁ left₁ r → Simplifies bytes at kinds counts arities starts fields subject used nodes left nodes₁ left₁ v
-simplified_as {bytes} {at} {kinds} {counts} {arities} {starts} {fields} {subject} {used} {nodes} {left} {nodes₁} {left₁} e q = subst (λ (x : Simplified). Simplifies bytes at kinds counts arities starts fields subject used nodes left nodes₁ left₁ x) e q
+pub simplified_as : {bytes : List ℕ} {at : ℕ} {kinds counts arities starts fields : List ℕ} {subject used : ℕ} {nodes left nodes₁ left₁ : List ℕ} {r v : Result ℕ Unsuited} → r ≡ v → Simplifies bytes at kinds counts arities starts fields subject used nodes left nodes₁ left₁ r → Simplifies bytes at kinds counts arities starts fields subject used nodes left nodes₁ left₁ v
+simplified_as {bytes} {at} {kinds} {counts} {arities} {starts} {fields} {subject} {used} {nodes} {left} {nodes₁} {left₁} e q = subst (λ (x : Result ℕ Unsuited). Simplifies bytes at kinds counts arities starts fields subject used nodes left nodes₁ left₁ x) e q
 
 -- a sound table and its subject
 pub sound-parts : (table : Table) (t : ℕ) → is_sound table t ≡ true → (t < length table) × (refs_good table ≡ true)
@@ -177,10 +177,10 @@ module _ {h : Held} {s : State} {σ : scope.State} (w : Says h s σ) where
       }
 
   -- 01 type
-  pub type-steps : (at : ℕ) (r : State) {kinds' counts' arities' starts' fields' : List ℕ} → EntersType h.bytes at s h.kinds h.counts h.arities h.starts h.fields kinds' counts' arities' starts' fields' r → s.types < 64 → (ty : Ty) → type_frame (drop at h.bytes) ≡ found ty []
-      → Stepped (held h.bytes kinds' counts' arities' starts' h.names fields' h.labels h.nodes h.left h.rows) (ok r) (enter σ.block (type_of ty))
+  pub type-steps : (at : ℕ) (r : State) {kinds' counts' arities' starts' names' fields' labels' : List ℕ} → EntersType h.bytes at s h.kinds h.counts h.arities h.starts h.fields kinds' counts' arities' starts' fields' r → names' ≡ h.names → labels' ≡ h.labels → s.types < 64 → (ty : Ty) → type_frame (drop at h.bytes) ≡ found ty []
+      → Stepped (held h.bytes kinds' counts' arities' starts' names' fields' labels' h.nodes h.left h.rows) (ok r) (enter σ.block (type_of ty))
   unfolding enter
-  type-steps at r {kinds'} {counts'} {arities'} {starts'} {fields'} e free ty frame =
+  type-steps at r {kinds'} {counts'} {arities'} {starts'} {names'} {fields'} {labels'} e same_names same_labels free ty frame =
       let n = e.numbers in
       let q : r.phase ≡ phase_for (kind ty) = n.phase_is ∙ ap phase_for (type-read h.bytes at s.types ty [] frame).kind_is in
       let p = type-phase ty r.phase q σ.block.table in
@@ -195,16 +195,16 @@ module _ {h : Held} {s : State} {σ : scope.State} (w : Says h s σ) where
         in_phase = p.1;
         sized = type-sized z e.with;
       } in
-      goes says
+      rw (same_names, same_labels) (goes says)
 
   -- 02 constructor
-  pub ctor-steps : (at : ℕ) (r : Step) {counts' arities' starts' names' fields' labels' : List ℕ} → EntersCtor h.bytes at s h.counts h.arities h.starts h.names h.fields h.labels counts' arities' starts' names' fields' labels' r → EndsInData σ.block.table → s.ctors < 256 → length (last_declared σ.block.table) < 32 → 0 < at → length h.bytes ≤ 65536
-      → (c : Ctor) → constructor_frame (drop at h.bytes) ≡ found c [] → Stepped (held h.bytes h.kinds counts' arities' starts' names' fields' labels' h.nodes h.left h.rows) (said_step r) (enter σ.block (constructor_of c))
+  pub ctor-steps : (at : ℕ) (r : Result State Refusal) {kinds' counts' arities' starts' names' fields' labels' : List ℕ} → EntersCtor h.bytes at s h.counts h.arities h.starts h.names h.fields h.labels counts' arities' starts' names' fields' labels' r → kinds' ≡ h.kinds → EndsInData σ.block.table → s.ctors < 256 → length (last_declared σ.block.table) < 32 → 0 < at → length h.bytes ≤ 65536
+      → (c : Ctor) → constructor_frame (drop at h.bytes) ≡ found c [] → Stepped (held h.bytes kinds' counts' arities' starts' names' fields' labels' h.nodes h.left h.rows) (said_step r) (enter σ.block (constructor_of c))
   unfolding enter
-  ctor-steps at r (stale f) d more free past short c frame =
+  ctor-steps at r (stale f) same_kinds d more free past short c frame =
       let u : is_fresh σ.block.table c ≡ false = sym (fresh-means w.holds d at c [] frame) ∙ f in
       rw u (stops 7)
-  ctor-steps at r {counts'} {arities'} {starts'} {names'} {fields'} {labels'} (fresh {r = r'} f n k) d more free past short c frame =
+  ctor-steps at r {kinds'} {counts'} {arities'} {starts'} {names'} {fields'} {labels'} (fresh {r = r'} f n k) same_kinds d more free past short c frame =
       let u : is_fresh σ.block.table c ≡ true = sym (fresh-means w.holds d at c [] frame) ∙ f in
       let says : Says (held h.bytes h.kinds counts' arities' starts' names' fields' labels' h.nodes h.left h.rows) r' (with_table constructors (add_ctor σ.block.table c)) =
       record {
@@ -217,10 +217,10 @@ module _ {h : Held} {s : State} {σ : scope.State} (w : Says h s σ) where
         in_phase = added-ends d c;
         sized = ctor-sized z k;
       } in
-      rw u (goes says)
+      rw (u, same_kinds) (goes says)
 
   -- 03 subject
-  pub subject-steps : (at : ℕ) (r : Step) → EntersSubject h.bytes at s h.kinds h.counts h.arities h.starts h.fields r → (t : ℕ) → t ≡ get_or h.bytes at 0 → Stepped h (said_step r) (enter σ.block (subject_of t))
+  pub subject-steps : (at : ℕ) (r : Result State Refusal) → EntersSubject h.bytes at s h.kinds h.counts h.arities h.starts h.fields r → (t : ℕ) → t ≡ get_or h.bytes at 0 → Stepped h (said_step r) (enter σ.block (subject_of t))
   unfolding enter
   subject-steps at r (unsound f) t e =
       let u : is_sound σ.block.table t ≡ false = sym (sound-means w.holds t) ∙ ap (is_sound_in h.kinds h.counts h.arities h.starts h.fields s.fields s.types) e ∙ f in
@@ -250,7 +250,7 @@ module _ {h : Held} {s : State} {σ : scope.State} (w : Says h s σ) where
       b = σ.block
 
       -- one more row
-      more_rows : {nodes₁ left₁ nodes' left' rows' : List ℕ} {n : ℕ} {r : Row} → Simplifies h.bytes at h.kinds h.counts h.arities h.starts h.fields b.subject s.used h.nodes h.left nodes₁ left₁ (Kept n) → s.count + n ≤ 4096
+      more_rows : {nodes₁ left₁ nodes' left' rows' : List ℕ} {n : ℕ} {r : Row} → Simplifies h.bytes at h.kinds h.counts h.arities h.starts h.fields b.subject s.used h.nodes h.left nodes₁ left₁ (Ok n) → s.count + n ≤ 4096
           → nodes' ≡ set nodes₁ (s.used + n) 0 → left' ≡ set left₁ (s.used + n) 0 → rows' ≡ set h.rows s.clauses (s.used % 65536) → s.clauses < 64 → simplify b.table b.subject ps ≡ some r → n ≡ length r
           → (count used : ℕ) → count ≡ s.count + n → used ≡ s.used + n + 1 → Rows h.bytes nodes' left' rows' count used b.table (b.rows ++ r ∷ [])
       more_rows {nodes₁} {left₁} {nodes'} {left'} {rows'} {n} {r} q fits nodes_are left_are rows_are free is size count used count_is used_is =
@@ -279,17 +279,17 @@ module _ {h : Held} {s : State} {σ : scope.State} (w : Says h s σ) where
             before = λ i l. (every i (omega arith)).1;
           }
 
-      pub clause-steps : (r : Step) {nodes' left' rows' : List ℕ} → EntersClause h.bytes at s h.kinds h.counts h.arities h.starts h.fields h.nodes h.left h.rows nodes' left' rows' r → s.clauses < 64
+      pub clause-steps : (r : Result State Refusal) {nodes' left' rows' : List ℕ} → EntersClause h.bytes at s h.kinds h.counts h.arities h.starts h.fields h.nodes h.left h.rows nodes' left' rows' r → s.clauses < 64
           → Stepped (held h.bytes h.kinds h.counts h.arities h.starts h.names h.fields h.labels nodes' left' rows') (said_step r) (enter σ.block (clause_of ps))
       unfolding enter
-      clause-steps r (unsuited {nodes₁ = nodes₁} {left₁ = left₁} q) free =
-          let g : Simplifies h.bytes at h.kinds h.counts h.arities h.starts h.fields b.subject s.used h.nodes h.left nodes₁ left₁ Unsuited = subst (λ (t : ℕ). Simplifies h.bytes at h.kinds h.counts h.arities h.starts h.fields t s.used h.nodes h.left nodes₁ left₁ Unsuited) w.subject_is q in
+      clause-steps r (unsuited {nodes₁ = nodes₁} {left₁ = left₁} {e = e} q) free =
+          let g : Simplifies h.bytes at h.kinds h.counts h.arities h.starts h.fields b.subject s.used h.nodes h.left nodes₁ left₁ (Err e) = subst (λ (t : ℕ). Simplifies h.bytes at h.kinds h.counts h.arities h.starts h.fields t s.used h.nodes h.left nodes₁ left₁ (Err e)) w.subject_is q in
           unsuited-steps h.bytes g.new _ (simplify b.table b.subject ps) (g.means ps read b.table given).0
       clause-steps r (over {nodes₁ = nodes₁} {left₁ = left₁} {n = n} q l) free =
-          let g : Simplifies h.bytes at h.kinds h.counts h.arities h.starts h.fields b.subject s.used h.nodes h.left nodes₁ left₁ (Kept n) = subst (λ (t : ℕ). Simplifies h.bytes at h.kinds h.counts h.arities h.starts h.fields t s.used h.nodes h.left nodes₁ left₁ (Kept n)) w.subject_is q in
+          let g : Simplifies h.bytes at h.kinds h.counts h.arities h.starts h.fields b.subject s.used h.nodes h.left nodes₁ left₁ (Ok n) = subst (λ (t : ℕ). Simplifies h.bytes at h.kinds h.counts h.arities h.starts h.fields t s.used h.nodes h.left nodes₁ left₁ (Ok n)) w.subject_is q in
           over-steps h.bytes g.new n b (simplify b.table b.subject ps) (g.means ps read b.table given).0 (ap (λ (k : ℕ). leb (k + n) 4096) (sym w.rows_are.counted) ∙ l)
       clause-steps r (row {nodes₁ = nodes₁} {left₁ = left₁} {n = n} {r = r'} q l nodes_are left_are rows_are m) free =
-          let g : Simplifies h.bytes at h.kinds h.counts h.arities h.starts h.fields b.subject s.used h.nodes h.left nodes₁ left₁ (Kept n) = subst (λ (t : ℕ). Simplifies h.bytes at h.kinds h.counts h.arities h.starts h.fields t s.used h.nodes h.left nodes₁ left₁ (Kept n)) w.subject_is q in
+          let g : Simplifies h.bytes at h.kinds h.counts h.arities h.starts h.fields b.subject s.used h.nodes h.left nodes₁ left₁ (Ok n) = subst (λ (t : ℕ). Simplifies h.bytes at h.kinds h.counts h.arities h.starts h.fields t s.used h.nodes h.left nodes₁ left₁ (Ok n)) w.subject_is q in
           row-steps h.bytes g.new n b (simplify b.table b.subject ps) r' (g.means ps read b.table given).0 (ap (λ (k : ℕ). leb (k + n) 4096) (sym w.rows_are.counted) ∙ l)
           (λ v is size. record {
             phase_is = ap phase_of m.phase_is;

@@ -7,3 +7,4 @@ pub mod Lines
 pub mod Whole
 pub mod Once
 pub mod Literals
+mod Relent

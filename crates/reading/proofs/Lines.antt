@@ -3,11 +3,11 @@ use mathlib.Core.Path.{◌≡◌, refl, sym, ap, subst, ◌∙◌}
 use mathlib.Core.Bool.{Bool, true, false, cond, ◌&&◌}
 use mathlib.Core.Option.{Option, some}
 use mathlib.Core.List.{List, [], ◌∷◌, ◌++◌}
-use Prim.Native.Nat.{ℕ, suc, ◌+◌, ◌*◌, ◌-◌, ◌%◌, ◌≤◌, ◌<◌, ◌^◌}
+use Prim.Native.Nat.{ℕ, suc, ◌+◌, ◌*◌, ◌-◌, ◌%◌, ◌≤◌, ◌<◌}
 use native.Mathlib.Omega.{arith}
 use native.Mathlib.Numerals.{add-one}
 use lib.ListN.{length, get_or, take, drop, replicate, length-append, take-append-drop, drop_of_length-le}
-use lib.Seq.{sets, length-sets, length-take-le, get_or-take, drop_at}
+use lib.Seq.{sets, length-take-le, get_or-take, drop_at}
 use lib.Dec.{ltb, leb, eqb}
 use Rattle.scope.proofs.Tests.{clash, both}
 use Rattle.meaning.proofs.Parsing.{block-good}
@@ -18,6 +18,7 @@ use Rattle.scope.specs.Simplify.{Matrix}
 use Rattle.scope.specs.Blocks as scope
 use Rattle.scope.specs.Blocks.{Phase, types, constructors, clauses, closed, start, ok, refuse, go_on, framed, line_step, parsed, faulty, finish, parse, block_of}
 use Rattle.hexadecimal.specs.declared.Line as hex
+use Rattle.hexadecimal.specs.declared.BadLine.{BadLine}
 use Rattle.hexadecimal.specs.Digits.{said_line, TakenLine, RefusedLine, Lined}
 use Rattle.table.proofs.Held.{take_through}
 use Rattle.table.proofs.Carried.{empty_holds, more-holds}
@@ -25,9 +26,12 @@ use Rattle.patterns.specs.Rows.{RowAt}
 use Rattle.patterns.proofs.Rows.{row-grown}
 use Rattle.order.specs.declared.State.{State}
 use Rattle.order.specs.Phases.{phase_of, is_closed, closes_in, Numbers}
-use Rattle.reading.specs.declared.line.Step.{Step}
-use Rattle.reading.specs.declared.line.Step.TheVariants.{On, Refused}
-use Rattle.reading.specs.declared.file.Parsed as answers
+use Rattle.std.specs.Prelude.{Result, Ok, Err}
+use Rattle.scope.specs.Numbers.{number_of}
+use Rattle.scope.specs.declared.refusal.Refusal.{Refusal}
+use Rattle.scope.specs.declared.refusal.Refusal.TheVariants.{Order}
+use Rattle.reading.specs.declared.file.Parsed.{Parsed}
+use Rattle.reading.specs.declared.file.Faulty.{Faulty}
 use Rattle.reading.specs.Said.{Held, held, Sized, Rows, Says, said_step, Stepped, goes, stops}
 use Rattle.reading.specs.Files.{HoldsBlock, file_of, end_of, LinesAs, says_block, says_fault}
 use Rattle.reading.proofs.Entering.{no_rows}
@@ -42,12 +46,12 @@ resized : {h : Held} → Sized h → (bytes : List ℕ) → Sized (grown h bytes
 resized z bytes = record { kinds_long = z.kinds_long; counts_long = z.counts_long; arities_long = z.arities_long; starts_long = z.starts_long; names_long = z.names_long; fields_long = z.fields_long; labels_long = z.labels_long; nodes_long = z.nodes_long; left_long = z.left_long; rows_long = z.rows_long }
 
 -- a line that was read, by its answer
-module _ (file : List ℕ) (from : ℕ) (before : List ℕ) (at : ℕ) (l : hex.Line) (after : List ℕ) (x : Lined file from before at (said_line l) after) where
-  pub taken : (next to : ℕ) → l ≡ hex.TheVariants.Good next to → TakenLine file from before at next to after
-  taken next to e = subst (λ (m : hex.Line). Lined file from before at (said_line m) after) e x
+module _ (file : List ℕ) (from : ℕ) (before : List ℕ) (at : ℕ) (l : Result hex.Line BadLine) (after : List ℕ) (x : Lined file from before at (said_line l) after) where
+  pub taken : (m : hex.Line) → l ≡ Ok m → TakenLine file from before at m.next m.to after
+  taken m e = subst (λ (r : Result hex.Line BadLine). Lined file from before at (said_line r) after) e x
 
-  pub not_taken : l ≡ hex.TheVariants.Bad → RefusedLine file from before 3 after
-  not_taken e = subst (λ (m : hex.Line). Lined file from before at (said_line m) after) e x
+  pub not_taken : (e : BadLine) → l ≡ Err e → RefusedLine file from before 3 after
+  not_taken m e = subst (λ (r : Result hex.Line BadLine). Lined file from before at (said_line r) after) e x
 
 rows_grown : {bytes nodes left rows : List ℕ} {count used : ℕ} {table : Table} {m : Matrix} (more : List ℕ) → Rows bytes nodes left rows count used table m → Rows (bytes ++ more) nodes left rows count used table m
 rows_grown {bytes} more o = record { counted = o.counted; packed = o.packed; few = o.few; short = o.short; each = λ i l. row-grown bytes more (o.each i l); before = o.before }
@@ -127,10 +131,6 @@ stopped (goes w) n e = clash (cc)
 stopped (stops m) n e = let i : m ≡ n = cc in ap refuse i
 
 module _ {file : List ℕ} {k i at : ℕ} {s : State} {h : Held} (v : Within file k i at s h) where
-  -- the next line has a number
-  pub next-line : k + 1 < 2 ^ 64
-  next-line = omega (arith, v.numbered, v.inside, v.short)
-
   -- 3
   pub line-bad : {before after : List ℕ} → RefusedLine file i before 3 after → file_of file ≡ faulty 3 k
   line-bad t = v.onward ∙ ap (parse k v.state) t.begins ∙ parse-bad k v.state t.line t.others t.bad
@@ -141,9 +141,6 @@ module _ {file : List ℕ} {k i at : ℕ} {s : State} {h : Held} (v : Within fil
 
     to-fits : to ≤ length before
     to-fits = omega (arith, t.packed, t.inside)
-
-    pub to-after : to ≤ length after
-    to-after = omega (arith, to-fits, ap length t.written, length-sets before at line-bytes)
 
     -- the bytes so far, and the line's
     bytes-are : take to after ≡ h.bytes ++ line-bytes
@@ -170,14 +167,14 @@ module _ {file : List ℕ} {k i at : ℕ} {s : State} {h : Held} (v : Within fil
     pub line-says : Says (grown h (take to after)) s v.state
     line-says = rw bytes-are (says-grown line-bytes v.says)
 
-    module _ (r : Step) {h' : Held} (x : Stepped h' (said_step r) (framed v.state (drop at (take to after)))) where
+    module _ (r : Result State Refusal) {h' : Held} (x : Stepped h' (said_step r) (framed v.state (drop at (take to after)))) where
       goes_on : file_of file ≡ go_on k (framed v.state (drop at (take to after))) (λ σ'. parse (suc k) σ' (lines (drop next file)))
       goes_on = v.onward ∙ ap (parse k v.state) t.begins ∙ parse-next k v.state t.digits_of (lines (drop next file)) t.good ∙ ap (λ (bs : List ℕ). go_on k (framed v.state bs) (λ σ'. parse (suc k) σ' (lines (drop next file)))) (sym line-is)
 
-      pub line-stops : (n : ℕ) → r ≡ Refused n → file_of file ≡ faulty n k
-      line-stops n e = goes_on ∙ ap (λ (y : scope.Step scope.State). go_on k y (λ σ'. parse (suc k) σ' (lines (drop next file)))) (stopped x n (ap said_step e))
+      pub line-stops : (f : Refusal) → r ≡ Err f → file_of file ≡ faulty (number_of f) k
+      line-stops f e = goes_on ∙ ap (λ (y : scope.Step scope.State). go_on k y (λ σ'. parse (suc k) σ' (lines (drop next file)))) (stopped x (number_of f) (ap said_step e))
 
-      pub line-goes : (s' : State) → r ≡ On s' → Within file (k + 1) next to s' h'
+      pub line-goes : (s' : State) → r ≡ Ok s' → Within file (k + 1) next to s' h'
       line-goes s' e =
           let g = gone x s' (ap said_step e) in
           record {
@@ -206,7 +203,7 @@ module _ {file : List ℕ} {k i at : ℕ} {s : State} {h : Held} (v : Within fil
         at-phase clauses = refl
         at-phase closed = refl
 
-    the_block : closes_in s.phase ≡ true → (bytes : List ℕ) → h.bytes ≡ take at bytes → LinesAs file (grown h bytes) (answers.TheVariants.Block s.subject s.clauses s.types)
+    the_block : closes_in s.phase ≡ true → (bytes : List ℕ) → h.bytes ≡ take at bytes → LinesAs file (grown h bytes) (Ok (record { subject = s.subject; clauses = s.clauses; types = s.types }))
     the_block e bytes so_far =
         let b = v.state.block in
         let is : file_of file ≡ parsed b = by-phase ∙ ap (λ (c : Bool). cond c (parsed b) (faulty 5 k)) e in
@@ -237,10 +234,10 @@ module _ {file : List ℕ} {k i at : ℕ} {s : State} {h : Held} (v : Within fil
         } in
         says_block b is there
 
-    pub at_last : (bytes : List ℕ) → h.bytes ≡ take at bytes → (r : answers.Parsed) → r ≡ end_of s k → LinesAs file (grown h bytes) r
+    pub at_last : (bytes : List ℕ) → h.bytes ≡ take at bytes → (r : Result Parsed Faulty) → r ≡ end_of s k → LinesAs file (grown h bytes) r
     unfolding end_of
-    at_last bytes so_far r e = subst (λ (x : answers.Parsed). LinesAs file (grown h bytes) x) (sym e) (go (closes_in s.phase) refl)
+    at_last bytes so_far r e = subst (λ (x : Result Parsed Faulty). LinesAs file (grown h bytes) x) (sym e) (go (closes_in s.phase) refl)
       where
-        go : (c : Bool) → closes_in s.phase ≡ c → LinesAs file (grown h bytes) (cond c (answers.TheVariants.Block s.subject s.clauses s.types) (answers.TheVariants.Faulty 5 k))
+        go : (c : Bool) → closes_in s.phase ≡ c → LinesAs file (grown h bytes) (cond c (Ok (record { subject = s.subject; clauses = s.clauses; types = s.types })) (Err (record { why = Order; line = k })))
         go true c = the_block c bytes so_far
         go false c = says_fault (by-phase ∙ ap (λ (x : Bool). cond x (parsed v.state.block) (faulty 5 k)) c)

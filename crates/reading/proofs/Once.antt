@@ -12,10 +12,12 @@ use Rattle.scope.specs.Blocks.{Phase, types, constructors, clauses, closed, ok, 
 use Rattle.layout.specs.Types.{all_fields}
 use Rattle.order.specs.declared.State.{State}
 use Rattle.order.specs.Phases.{phase_of}
-use Rattle.reading.specs.declared.line.Step.{Step}
-use Rattle.reading.specs.declared.line.Step.TheVariants.{On, Refused}
+use Rattle.std.specs.Prelude.{Result, Ok, Err}
+use Rattle.scope.proofs.Numbers.{numbers-once}
+use Rattle.scope.specs.Numbers.{number_of}
+use Rattle.scope.specs.declared.refusal.Refusal.{Refusal}
 use Rattle.reading.specs.declared.file.Parsed.{Parsed}
-use Rattle.reading.specs.declared.file.Parsed.TheVariants.{Block, Faulty}
+use Rattle.reading.specs.declared.file.Faulty.{Faulty}
 use Rattle.reading.specs.Said.{Held, held, Says, Known, said_step, Stepped, goes, stops}
 use Rattle.reading.specs.Files.{said_parsed, ReadAs, a_block, a_fault}
 
@@ -23,17 +25,25 @@ use Rattle.reading.specs.Files.{said_parsed, ReadAs, a_block, a_fault}
 abbrev Said : Type 0
 Said = scope.Step (ℕ × (ℕ × ℕ)) × ℕ
 
-same-parsed : (r s : Parsed) → said_parsed r ≡ said_parsed s → r ≡ s
-same-parsed (Block s c t) (Block s' c' t') e =
-    let i : ◌≡◌ {A = scope.Step (ℕ × (ℕ × ℕ))} (ok (s, (c, t))) (ok (s', (c', t'))) = ap (λ (x : Said). x.0) e in
-    let j : ◌≡◌ {A = ℕ × (ℕ × ℕ)} (s, (c, t)) (s', (c', t')) = cc in
-    ap (λ (x : ℕ × (ℕ × ℕ)). Block x.0 x.1.0 x.1.1) j
-same-parsed (Block s c t) (Faulty n k) e = let i = ap (λ (x : Said). x.0) e in clash (cc)
-same-parsed (Faulty n k) (Block s c t) e = let i = ap (λ (x : Said). x.0) e in clash (cc)
-same-parsed (Faulty n k) (Faulty n' k') e =
-    let i : ◌≡◌ {A = scope.Step (ℕ × (ℕ × ℕ))} (refuse n) (refuse n') = ap (λ (x : Said). x.0) e in
-    let j : n ≡ n' = cc in
-    ap₂ Faulty j (ap (λ (x : Said). x.1) e)
+-- what was parsed, by its three numbers; a fault, by its reason and its line
+parsed_with : ℕ → ℕ → ℕ → Result Parsed Faulty
+parsed_with s c t = Ok (record { subject = s; clauses = c; types = t })
+
+fault-with : Refusal → ℕ → Result Parsed Faulty
+fault-with why line = Err (record { why = why; line = line })
+
+same-parsed : (r s : Result Parsed Faulty) → said_parsed r ≡ said_parsed s → r ≡ s
+unfolding parsed_with fault-with
+same-parsed (Ok p) (Ok q) e =
+    let i : ◌≡◌ {A = scope.Step (ℕ × (ℕ × ℕ))} (ok (p.subject, (p.clauses, p.types))) (ok (q.subject, (q.clauses, q.types))) = ap (λ (x : Said). x.0) e in
+    let j : ◌≡◌ {A = ℕ × (ℕ × ℕ)} (p.subject, (p.clauses, p.types)) (q.subject, (q.clauses, q.types)) = cc in
+    ap (λ (x : ℕ × (ℕ × ℕ)). parsed_with x.0 x.1.0 x.1.1) j
+same-parsed (Ok p) (Err f) e = let i = ap (λ (x : Said). x.0) e in clash (cc)
+same-parsed (Err f) (Ok p) e = let i = ap (λ (x : Said). x.0) e in clash (cc)
+same-parsed (Err f) (Err g) e =
+    let i : ◌≡◌ {A = scope.Step (ℕ × (ℕ × ℕ))} (refuse (number_of f.why)) (refuse (number_of g.why)) = ap (λ (x : Said). x.0) e in
+    let j : number_of f.why ≡ number_of g.why = cc in
+    ap₂ fault-with (numbers-once f.why g.why j) (ap (λ (x : Said). x.1) e)
 
 same_block : {s s' c c' t t' : ℕ} → s ≡ s' → c ≡ c' → t ≡ t' → ◌≡◌ {A = Said} (ok (s, (c, t)), 0) (ok (s', (c', t')), 0)
 same_block a b d = rw (a, b, d)
@@ -54,7 +64,7 @@ read-once file (a_fault {n = n} {k = k} f z c) (a_fault {n = n'} {k = k'} f' z' 
     let j : k ≡ k' = cc in
     same-fault i j
 
-pub one_answer : (file : List ℕ) {h h' : Held} (r r' : Parsed) → ReadAs file h (said_parsed r) → ReadAs file h' (said_parsed r') → r ≡ r'
+pub one_answer : (file : List ℕ) {h h' : Held} (r r' : Result Parsed Faulty) → ReadAs file h (said_parsed r) → ReadAs file h' (said_parsed r') → r ≡ r'
 one_answer file r r' a b = same-parsed r r' (read-once file a b)
 
 -- after a refusal the slices are equal too, where as many bytes were lent
@@ -65,7 +75,7 @@ same-held : {h h' : Held} → h.bytes ≡ h'.bytes → h.kinds ≡ h'.kinds → 
 same-held {h} {h'} a b d e f g i j k l m =
     let e : held h.bytes h.kinds h.counts h.arities h.starts h.names h.fields h.labels h.nodes h.left h.rows ≡ held h'.bytes h'.kinds h'.counts h'.arities h'.starts h'.names h'.fields h'.labels h'.nodes h'.left h'.rows = rw (a, b, d, e, f, g, i, j, k, l, m) in e
 
-pub one-refusal : (file : List ℕ) {h h' : Held} {n k : ℕ} → ReadAs file h (said_parsed (Faulty n k)) → ReadAs file h' (said_parsed (Faulty n k)) → length h.bytes ≡ length h'.bytes → h ≡ h'
+pub one-refusal : (file : List ℕ) {h h' : Held} {n k : ℕ} → ReadAs file h (refuse n, k) → ReadAs file h' (refuse n, k) → length h.bytes ≡ length h'.bytes → h ≡ h'
 one-refusal file (a_fault f z x) (a_fault f' z' x') e =
     same-held
     (same-zero x.bytes_zero x'.bytes_zero e)
@@ -119,11 +129,11 @@ one_state {s = s} {s' = s'} {σ = σ} w w' =
     (omega (arith, w.rows_are.packed, w.rows_are.counted, w'.rows_are.packed, w'.rows_are.counted))
     (w.rows_are.counted ∙ sym w'.rows_are.counted)
 
-same-said : (r s : Step) → said_step r ≡ said_step s → r ≡ s
-same-said (On s) (On t) e = let i : s ≡ t = cc in ap On i
-same-said (On s) (Refused n) e = clash (cc)
-same-said (Refused n) (On s) e = clash (cc)
-same-said (Refused m) (Refused n) e = let i : m ≡ n = cc in ap Refused i
+same-said : (r s : Result State Refusal) → said_step r ≡ said_step s → r ≡ s
+same-said (Ok s) (Ok t) e = let i : s ≡ t = cc in ap Ok i
+same-said (Ok s) (Err f) e = clash (cc)
+same-said (Err f) (Ok s) e = clash (cc)
+same-said (Err f) (Err g) e = let i : number_of f ≡ number_of g = cc in ap Err (numbers-once f g i)
 
 stepped-once : {h h' : Held} {r r' : scope.Step State} {x x' : scope.Step scope.State} → Stepped h r x → Stepped h' r' x' → x ≡ x' → r ≡ r'
 stepped-once {h' = h'} (goes {s = s} {σ = σ} w) (goes {s = s'} {σ = σ'} w') e = let i : σ' ≡ σ = cc in ap ok (one_state w (subst (λ (τ : scope.State). Says h' s' τ) i w'))
@@ -132,7 +142,7 @@ stepped-once (stops n) (goes w) e = clash (cc)
 stepped-once (stops n) (stops m) e = let i : n ≡ m = cc in ap refuse i
 
 -- a line has one answer, for slices and numbers that are known to say a state: every number of the answered state, its phase too, or the refusal
-pub one-step : {h h₁ h₂ : Held} {s : State} (at : ℕ) (r₁ r₂ : Step) → Known h s
+pub one-step : {h h₁ h₂ : Held} {s : State} (at : ℕ) (r₁ r₂ : Result State Refusal) → Known h s
     → ((σ : scope.State) → Says h s σ → Stepped h₁ (said_step r₁) (framed σ (drop at h.bytes)))
     → ((σ : scope.State) → Says h s σ → Stepped h₂ (said_step r₂) (framed σ (drop at h.bytes)))
     → r₁ ≡ r₂

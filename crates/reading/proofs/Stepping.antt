@@ -2,26 +2,27 @@
 use mathlib.Core.Path.{◌≡◌, refl, sym, ap, ◌∙◌}
 use mathlib.Core.Bool.{true}
 use mathlib.Core.List.{List, []}
-use Prim.Native.Nat.{ℕ, zero, suc, ◌+◌, ◌-◌, ◌≤◌, ◌<◌, ◌^◌}
+use Prim.Native.Nat.{ℕ, ◌+◌, ◌-◌, ◌≤◌, ◌<◌, ◌^◌}
 use native.Mathlib.Omega.{arith}
-use borrow.Author.Tests.{ltb-true, leb-true}
+use borrow.Author.Tests.{ltb-true}
 use lib.ListN.{length, get_or, drop}
-use lib.Dec.{ltb, leb}
+use lib.Dec.{ltb}
 use Rattle.scope.proofs.Tests.{clash, both}
-use Rattle.scope.specs.Frames.{Frame, is_kind}
+use Rattle.scope.specs.Frames.{Frame}
 use Rattle.scope.specs.Blocks as scope
 use Rattle.scope.specs.Blocks.{ok, refuse, enter, framed}
 use Rattle.table.specs.Build.{EntersType}
 use Rattle.patterns.specs.Rows.{Ready}
 use Rattle.order.specs.declared.State.{State}
 use Rattle.order.specs.Phases.{room_in}
-use Rattle.reading.specs.declared.line.Step.{Step}
-use Rattle.frames.specs.declared.admitting.Kind.{Kind}
-use Rattle.frames.specs.declared.admitting.Kind as kind
+use Rattle.std.specs.Prelude.{Result, Ok, Err}
+use Rattle.scope.specs.declared.refusal.Refusal.{Refusal}
+use Rattle.scope.specs.declared.kinds.FrameKind.{FrameKind}
+use Rattle.scope.specs.Numbers.{number_of, frame_byte}
 use Rattle.frames.specs.Checked.{said_kind, checked, kind_of}
 use Rattle.frames.proofs.Checks.{begins}
 use Rattle.reading.specs.Said.{Held, held, Says, said_step, Stepped, stops}
-use Rattle.reading.specs.Enters.{EntersCtor, EntersSubject, EntersClause, ForClause, EntersUse, a_subject, a_clause, Ended}
+use Rattle.reading.specs.Enters.{EntersCtor, EntersSubject, EntersClause, ForClause, Ended}
 use Rattle.reading.proofs.Framing.{Passed, passed, type-frame, constructor-frame, subject-frame, clause-frame, end_frame, byte-is, framed_is, above, some-type, last-is, sound-clause, sound-end}
 use Rattle.reading.proofs.Entering.{sound-parts, type-steps, ctor-steps, subject-steps, clause-steps, end-steps}
 
@@ -38,16 +39,6 @@ room-clause : (s : State) (last : ℕ) → room_in s last 4 ≡ true → s.claus
 unfolding room_in
 room-clause s last e = ltb-true s.clauses 64 e
 
--- the only other kind
-is-clause : (k : ℕ) → is_kind k ≡ true → (k ≡ 1 → ⊥) → (k ≡ 2 → ⊥) → (k ≡ 5 → ⊥) → (k ≡ 3 → ⊥) → k ≡ 4
-is-clause zero i a b c d = absurd (omega (arith, leb-true 1 0 (both (leb 1 0) (leb 0 5) i).0))
-is-clause (suc zero) i a b c d = absurd (a refl)
-is-clause (suc (suc zero)) i a b c d = absurd (b refl)
-is-clause (suc (suc (suc zero))) i a b c d = absurd (d refl)
-is-clause (suc (suc (suc (suc zero)))) i a b c d = refl
-is-clause (suc (suc (suc (suc (suc zero))))) i a b c d = absurd (c refl)
-is-clause (suc (suc (suc (suc (suc (suc k)))))) i a b c d = absurd (omega (arith, leb-true (suc (suc (suc (suc (suc (suc k)))))) 5 (both (leb 1 (suc (suc (suc (suc (suc (suc k))))))) (leb (suc (suc (suc (suc (suc (suc k)))))) 5) i).1))
-
 -- the kind that was found, or the refusal, by the answer to the tests
 kind-from : (x : scope.Step Frame) (b k : ℕ) → kind_of x b ≡ ok k → (k ≡ b) × ((f : Frame) × (x ≡ ok f))
 kind-from (ok f) b k e = let i : b ≡ k = cc in (sym i, (f, refl))
@@ -57,12 +48,12 @@ refused-from : (x : scope.Step Frame) (b n : ℕ) → kind_of x b ≡ refuse n �
 refused-from (ok f) b n e = clash (cc)
 refused-from (refuse m) b n e = let i : m ≡ n = cc in ap refuse i
 
-module _ (bytes : List ℕ) (at : ℕ) (s : State) (last : ℕ) (r : Kind) (x : said_kind r ≡ kind_of (checked s last (drop at bytes)) (get_or bytes at 0)) where
-  pub as_kind : (k : ℕ) → r ≡ kind.TheVariants.Is k → (k ≡ get_or bytes at 0) × ((f : Frame) × (checked s last (drop at bytes) ≡ ok f))
-  as_kind k e = kind-from (checked s last (drop at bytes)) (get_or bytes at 0) k (sym x ∙ ap said_kind e)
+module _ (bytes : List ℕ) (at : ℕ) (s : State) (last : ℕ) (r : Result FrameKind Refusal) (x : said_kind r ≡ kind_of (checked s last (drop at bytes)) (get_or bytes at 0)) where
+  pub as_kind : (k : FrameKind) → r ≡ Ok k → (frame_byte k ≡ get_or bytes at 0) × ((f : Frame) × (checked s last (drop at bytes) ≡ ok f))
+  as_kind k e = kind-from (checked s last (drop at bytes)) (get_or bytes at 0) (frame_byte k) (sym x ∙ ap said_kind e)
 
-  pub as_refused : (n : ℕ) → r ≡ kind.TheVariants.Refused n → checked s last (drop at bytes) ≡ refuse n
-  as_refused n e = refused-from (checked s last (drop at bytes)) (get_or bytes at 0) n (sym x ∙ ap said_kind e)
+  pub as_refused : (e : Refusal) → r ≡ Err e → checked s last (drop at bytes) ≡ refuse (number_of e)
+  as_refused e is = refused-from (checked s last (drop at bytes)) (get_or bytes at 0) (number_of e) (sym x ∙ ap said_kind is)
 
 module _ {h : Held} {s : State} {σ : scope.State} (w : Says h s σ) (last : ℕ) (last_is : 0 < s.types → last ≡ get_or h.counts (s.types - 1) 0) (at : ℕ) where
   -- a fault before what the frame adds
@@ -112,46 +103,36 @@ module _ {h : Held} {s : State} {σ : scope.State} (w : Says h s σ) (last : ℕ
           room = omega (arith, z.nodes_long, w.rows_are.packed, w.rows_are.short, w.rows_are.few);
         }
 
-    -- a frame that is none of the others and not the subject's is a clause's
-    other : (k ≡ 1 → ⊥) → (k ≡ 2 → ⊥) → (k ≡ 5 → ⊥) → (k ≡ 3 → ⊥) → k ≡ 4
-    other a b c d = is-clause k (past k refl).known a b c d
-
-    pub use_asks : (k ≡ 1 → ⊥) → (k ≡ 2 → ⊥) → (k ≡ 5 → ⊥) → length h.bytes ≤ 24576 → length h.bytes ≤ at + 640 → (k ≡ 3 → ⊥) → ForClause h.bytes (at + 1) s h.fields h.nodes
-    use_asks a b c short line d =
-        let e : k ≡ 4 = other a b c d in
+    pub clause_asks : k ≡ 4 → length h.bytes ≤ 24576 → length h.bytes ≤ at + 640 → ForClause h.bytes (at + 1) s h.fields h.nodes
+    clause_asks e short line =
         record { ready = clause-ready e short line; packed = w.rows_are.packed ∙ ap (λ (n : ℕ). s.count + n) (sym w.clauses_are); few = room-clause s last (past 4 e).room_here; short = w.rows_are.short }
 
     module _ (short : length h.bytes ≤ 24576) where
-      pub type-line : k ≡ 1 → (r : State) {kinds' counts' arities' starts' fields' : List ℕ} → EntersType h.bytes (at + 1) s h.kinds h.counts h.arities h.starts h.fields kinds' counts' arities' starts' fields' r
-          → Stepped (held h.bytes kinds' counts' arities' starts' h.names fields' h.labels h.nodes h.left h.rows) (ok r) (framed σ (drop at h.bytes))
-      type-line e r x =
+      pub type-line : k ≡ 1 → (r : State) {kinds' counts' arities' starts' names' fields' labels' : List ℕ} → EntersType h.bytes (at + 1) s h.kinds h.counts h.arities h.starts h.fields kinds' counts' arities' starts' fields' r → names' ≡ h.names → labels' ≡ h.labels
+          → Stepped (held h.bytes kinds' counts' arities' starts' names' fields' labels' h.nodes h.left h.rows) (ok r) (framed σ (drop at h.bytes))
+      type-line e r x n l =
           let p = type-frame (drop (at + 1) h.bytes) f (past 1 e).reads in
-          entered (rw p.1.0 (type-steps w (at + 1) r x (type_asks e) p.0 p.1.1))
+          entered (rw p.1.0 (type-steps w (at + 1) r x n l (type_asks e) p.0 p.1.1))
 
-      pub ctor-line : k ≡ 2 → (r : Step) {counts' arities' starts' names' fields' labels' : List ℕ} → EntersCtor h.bytes (at + 1) s h.counts h.arities h.starts h.names h.fields h.labels counts' arities' starts' names' fields' labels' r
-          → Stepped (held h.bytes h.kinds counts' arities' starts' names' fields' labels' h.nodes h.left h.rows) (said_step r) (framed σ (drop at h.bytes))
-      ctor-line e r x =
+      pub ctor-line : k ≡ 2 → (r : Result State Refusal) {kinds' counts' arities' starts' names' fields' labels' : List ℕ} → EntersCtor h.bytes (at + 1) s h.counts h.arities h.starts h.names h.fields h.labels counts' arities' starts' names' fields' labels' r → kinds' ≡ h.kinds
+          → Stepped (held h.bytes kinds' counts' arities' starts' names' fields' labels' h.nodes h.left h.rows) (said_step r) (framed σ (drop at h.bytes))
+      ctor-line e r x n =
           let q = past 2 e in
           let p = constructor-frame (drop (at + 1) h.bytes) f q.reads in
           let m = room-ctor s last q.room_here in
-          entered (rw p.1.0 (ctor-steps w (at + 1) r x (above w q.stands_here) m.0 (omega (arith, last-is w last last_is q.stands_here, m.1)) (omega arith) (omega arith) p.0 p.1.1))
+          entered (rw p.1.0 (ctor-steps w (at + 1) r x n (above w q.stands_here) m.0 (omega (arith, last-is w last last_is q.stands_here, m.1)) (omega arith) (omega arith) p.0 p.1.1))
 
-      subject-line : k ≡ 3 → (r : Step) → EntersSubject h.bytes (at + 1) s h.kinds h.counts h.arities h.starts h.fields r → Stepped h (said_step r) (framed σ (drop at h.bytes))
+      pub subject-line : k ≡ 3 → (r : Result State Refusal) → EntersSubject h.bytes (at + 1) s h.kinds h.counts h.arities h.starts h.fields r → Stepped h (said_step r) (framed σ (drop at h.bytes))
       subject-line e r x =
           let p = subject-frame (drop (at + 1) h.bytes) f (past 3 e).reads in
           entered (rw p.1.0 (subject-steps w (at + 1) r x p.0 (byte-is h.bytes (at + 1) p.0 [] p.1.1)))
 
-      clause-line : k ≡ 4 → (r : Step) {nodes' left' rows' : List ℕ} → EntersClause h.bytes (at + 1) s h.kinds h.counts h.arities h.starts h.fields h.nodes h.left h.rows nodes' left' rows' r
+      pub clause-line : k ≡ 4 → (r : Result State Refusal) {nodes' left' rows' : List ℕ} → EntersClause h.bytes (at + 1) s h.kinds h.counts h.arities h.starts h.fields h.nodes h.left h.rows nodes' left' rows' r
           → Stepped (held h.bytes h.kinds h.counts h.arities h.starts h.names h.fields h.labels nodes' left' rows') (said_step r) (framed σ (drop at h.bytes))
       clause-line e r x =
           let q = past 4 e in
           let p = clause-frame (drop (at + 1) h.bytes) f q.reads in
           entered (rw p.1.0 (clause-steps w (sound-clause w q.stands_here) (at + 1) p.0 p.1.1 r x (room-clause s last q.room_here)))
-
-      pub use_line : (k ≡ 1 → ⊥) → (k ≡ 2 → ⊥) → (k ≡ 5 → ⊥) → (r : Step) {nodes' left' rows' : List ℕ} → EntersUse k h.bytes (at + 1) s h.kinds h.counts h.arities h.starts h.fields h.nodes h.left h.rows nodes' left' rows' r
-          → Stepped (held h.bytes h.kinds h.counts h.arities h.starts h.names h.fields h.labels nodes' left' rows') (said_step r) (framed σ (drop at h.bytes))
-      use_line a b c r (a_subject e x n l m) = rw (n, l, m) (subject-line e r x)
-      use_line a b c r (a_clause d x) = clause-line (other a b c d) r x
 
       pub end_line : k ≡ 5 → (r : State) → Ended s r → Stepped h (ok r) (framed σ (drop at h.bytes))
       end_line e r x =

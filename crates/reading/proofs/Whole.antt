@@ -1,6 +1,6 @@
 -- The answer for a whole file: from its length, and from what its lines answer and the slices hold afterwards.
-use mathlib.Core.Path.{◌≡◌, refl, sym, ap, ◌∙◌}
-use mathlib.Core.Bool.{Bool, cond}
+use mathlib.Core.Path.{◌≡◌, sym, ap, ◌∙◌}
+use mathlib.Core.Bool.{Bool, true, false, cond}
 use mathlib.Core.List.{List}
 use Prim.Native.Nat.{ℕ, ◌≤◌, ◌<◌}
 use borrow.Author.Tests.{lt-ltb, le-ltb}
@@ -10,9 +10,14 @@ use Rattle.scope.specs.Lines.{lines}
 use Rattle.scope.specs.Blocks.{faulty, block_of}
 use Rattle.order.specs.declared.State.{State}
 use Rattle.order.specs.Phases.{closes_in}
+use Rattle.std.specs.Prelude.{Result, Ok, Err}
+use Rattle.std.specs.Result.{is_err}
+use Rattle.scope.specs.declared.refusal.Refusal.TheVariants.{Order}
+use Rattle.layout.specs.declared.tables.Store.{Store}
+use Rattle.layout.specs.Stores.{BlankStore}
 use Rattle.reading.specs.declared.file.Parsed.{Parsed}
-use Rattle.reading.specs.declared.file.Parsed.TheVariants.{Block, Faulty}
-use Rattle.reading.specs.Said.{Held, held, Sized}
+use Rattle.reading.specs.declared.file.Faulty.{Faulty}
+use Rattle.reading.specs.Said.{Held, held, held_by, Sized}
 use Rattle.reading.specs.Files.{file_of, end_of, LinesAs, says_block, says_fault, said_parsed, ReadAs, a_block, a_fault}
 
 -- 2
@@ -26,9 +31,9 @@ unfolding file_of
 file-lines file l = rw (le-ltb 49152 (length file) l)
 
 -- after the last line, by the test of the phase
-pub end_is : (s : State) (k : ℕ) (b : Bool) → closes_in s.phase ≡ b → cond b (Block s.subject s.clauses s.types) (Faulty 5 k) ≡ end_of s k
+pub end_is : (s : State) (k : ℕ) (b : Bool) → closes_in s.phase ≡ b → cond b (Ok (record { subject = s.subject; clauses = s.clauses; types = s.types })) (Err (record { why = Order; line = k })) ≡ end_of s k
 unfolding end_of
-end_is s k b e = ap (λ (c : Bool). cond c (Block s.subject s.clauses s.types) (Faulty 5 k)) (sym e)
+end_is s k b e = ap (λ (c : Bool). cond c (Ok (record { subject = s.subject; clauses = s.clauses; types = s.types })) (Err (record { why = Order; line = k }))) (sym e)
 
 -- zero everywhere, by the length that it has
 zero-long : (n : ℕ) {s : List ℕ} → s ≡ replicate n 0 → length s ≡ n
@@ -41,36 +46,40 @@ zero_now n e = e ∙ ap (λ (m : ℕ). replicate m 0) (sym (zero-long n e))
 pub relabelled : {h : Held} → Sized h → Sized (held h.bytes h.kinds h.counts h.arities h.starts h.names h.fields (replicate 5120 0) h.nodes h.left h.rows)
 relabelled z = record { kinds_long = z.kinds_long; counts_long = z.counts_long; arities_long = z.arities_long; starts_long = z.starts_long; names_long = z.names_long; fields_long = z.fields_long; labels_long = length-replicate {A = ℕ} 5120 0; nodes_long = z.nodes_long; left_long = z.left_long; rows_long = z.rows_long }
 
--- the answer, by what the lines answered: a block's slices are as they were, a refusal's are blank
-pub block_read : {file : List ℕ} {h : Held} {r : Parsed} (subject clauses types : ℕ) → r ≡ Block subject clauses types → LinesAs file h r → ReadAs file h (said_parsed r)
-block_read subject clauses types e (says_block b is x) = a_block b is x
-block_read subject clauses types e (says_fault f) = clash (cc)
+-- a blank store has the lengths of the limits
+pub blank-sized : {s : Store} → BlankStore s → Sized (held_by s)
+blank-sized z =
+    record {
+      kinds_long = zero-long 64 z.kinds_zero;
+      counts_long = zero-long 64 z.counts_zero;
+      arities_long = zero-long 2048 z.arities_zero;
+      starts_long = zero-long 2048 z.starts_zero;
+      names_long = zero-long 2048 z.names_zero;
+      fields_long = zero-long 5120 z.fields_zero;
+      labels_long = zero-long 5120 z.labels_zero;
+      nodes_long = zero-long 4160 z.nodes_zero;
+      left_long = zero-long 4160 z.left_zero;
+      rows_long = zero-long 64 z.row_starts_zero;
+    }
 
-pub fault-read : {file : List ℕ} {h : Held} {r : Parsed} {arities starts names : List ℕ} (n k : ℕ) → r ≡ Faulty n k → LinesAs file h r → (arities ≡ replicate 2048 0) × ((starts ≡ replicate 2048 0) × (names ≡ replicate 2048 0))
-    → ReadAs file (held (replicate 24576 0) (replicate 64 0) (replicate 64 0) arities starts names (replicate 5120 0) (replicate 5120 0) (replicate 4160 0) (replicate 4160 0) (replicate 64 0)) (said_parsed r)
-fault-read n k e (says_block b is x) c = clash (cc)
-fault-read n k e (says_fault is) c =
-    a_fault is (record {
-      kinds_long = zero-long 64 refl;
-      counts_long = zero-long 64 refl;
-      arities_long = zero-long 2048 c.0;
-      starts_long = zero-long 2048 c.1.0;
-      names_long = zero-long 2048 c.1.1;
-      fields_long = zero-long 5120 refl;
-      labels_long = zero-long 5120 refl;
-      nodes_long = zero-long 4160 refl;
-      left_long = zero-long 4160 refl;
-      rows_long = zero-long 64 refl;
-    }) (record {
-      bytes_zero = zero_now 24576 refl;
-      kinds_zero = zero_now 64 refl;
-      counts_zero = zero_now 64 refl;
-      arities_zero = zero_now 2048 c.0;
-      starts_zero = zero_now 2048 c.1.0;
-      names_zero = zero_now 2048 c.1.1;
-      fields_zero = zero_now 5120 refl;
-      labels_zero = zero_now 5120 refl;
-      nodes_zero = zero_now 4160 refl;
-      left_zero = zero_now 4160 refl;
-      rows_zero = zero_now 64 refl;
+-- the answer, by what the lines answered: a block's store is as it was, a refusal's is blank
+pub block_read : {file : List ℕ} {h : Held} (r : Result Parsed Faulty) → is_err r ≡ false → LinesAs file h r → ReadAs file h (said_parsed r)
+block_read (Ok p) e (says_block b is x) = a_block b is x
+block_read (Err f) e x = let i : true ≡ false = e in clash (cc)
+
+pub fault-read : {file : List ℕ} {h : Held} {s : Store} (r : Result Parsed Faulty) → is_err r ≡ true → LinesAs file h r → BlankStore s → ReadAs file (held_by s) (said_parsed r)
+fault-read (Ok p) e x z = let i : false ≡ true = e in clash (cc)
+fault-read (Err f) e (says_fault is) z =
+    a_fault is (blank-sized z) (record {
+      bytes_zero = zero_now 24576 z.bytes_zero;
+      kinds_zero = zero_now 64 z.kinds_zero;
+      counts_zero = zero_now 64 z.counts_zero;
+      arities_zero = zero_now 2048 z.arities_zero;
+      starts_zero = zero_now 2048 z.starts_zero;
+      names_zero = zero_now 2048 z.names_zero;
+      fields_zero = zero_now 5120 z.fields_zero;
+      labels_zero = zero_now 5120 z.labels_zero;
+      nodes_zero = zero_now 4160 z.nodes_zero;
+      left_zero = zero_now 4160 z.left_zero;
+      rows_zero = zero_now 64 z.row_starts_zero;
     })

@@ -1,5 +1,5 @@
 -- What reading a file answers and leaves in the slices: its block, or the refusal and its line.
-use Rattle.std.specs.Prelude.{◌≡◌, true, cond, List, [], ◌∷◌, ℕ, ◌≤◌, ◌<◌, length, get_or, take, replicate, ltb}
+use Rattle.std.specs.Prelude.{◌≡◌, true, cond, List, [], ◌∷◌, ℕ, Result, Ok, Err, ◌≤◌, ◌<◌, length, get_or, take, replicate, ltb}
 use Rattle.scope.specs.Limits.{max_file}
 use Rattle.scope.specs.Lines.{lines}
 use Rattle.laws.specs.Typed.{TypedRows}
@@ -10,8 +10,10 @@ use Rattle.layout.specs.Nodes.{HoldsRows}
 use Rattle.patterns.specs.Rows.{RowAt}
 use Rattle.order.specs.declared.State.{State}
 use Rattle.order.specs.Phases.{closes_in}
+use Rattle.scope.specs.declared.refusal.Refusal.TheVariants.{Order}
+use Rattle.scope.specs.Numbers.{number_of}
 use Rattle.reading.specs.declared.file.Parsed.{Parsed}
-use Rattle.reading.specs.declared.file.Parsed.TheVariants.{Block, Faulty}
+use Rattle.reading.specs.declared.file.Faulty.{Faulty}
 use Rattle.reading.specs.Said.{Held, Sized}
 
 -- the slices hold a block: its types, its rows, one for each clause, with every literal whole among the bytes; and it is sound
@@ -47,18 +49,18 @@ unfoldable pub file_of : List ℕ → scope.Parsed
 file_of file = let read = block_of (lines file) in cond (ltb max_file (length file)) (faulty 2 0) read
 
 -- after the last line: the block, or no end (5) at the line after it
-unfoldable pub end_of : State → ℕ → Parsed
-end_of s k = cond (closes_in s.phase) (Block s.subject s.clauses s.types) (Faulty 5 k)
+unfoldable pub end_of : State → ℕ → Result Parsed Faulty
+end_of s k = cond (closes_in s.phase) (Ok (record { subject = s.subject; clauses = s.clauses; types = s.types })) (Err (record { why = Order; line = k }))
 
 -- the block that the file says, in the slices, or the refusal and its line
-pub data LinesAs (file : List ℕ) (h : Held) : Parsed → Type 0 where
-  says_block : {subject clauses types : ℕ} (b : scope.Block) → file_of file ≡ parsed b → HoldsBlock h subject clauses types b → LinesAs file h (Block subject clauses types)
-  says_fault : {n k : ℕ} → file_of file ≡ faulty n k → LinesAs file h (Faulty n k)
+pub data LinesAs (file : List ℕ) (h : Held) : Result Parsed Faulty → Type 0 where
+  says_block : {p : Parsed} (b : scope.Block) → file_of file ≡ parsed b → HoldsBlock h p.subject p.clauses p.types b → LinesAs file h (Ok p)
+  says_fault : {f : Faulty} → file_of file ≡ faulty (number_of f.why) f.line → LinesAs file h (Err f)
 
 -- document 01's number, values and line for each case: the subject, how many clauses and types; the refusal's number, and its line
-abbrev pub said_parsed : Parsed → scope.Step (ℕ × (ℕ × ℕ)) × ℕ
-said_parsed (Block subject clauses types) = (ok (subject, (clauses, types)), 0)
-said_parsed (Faulty n k) = (refuse n, k)
+abbrev pub said_parsed : Result Parsed Faulty → scope.Step (ℕ × (ℕ × ℕ)) × ℕ
+said_parsed (Ok p) = (ok (p.subject, (p.clauses, p.types)), 0)
+said_parsed (Err f) = (refuse (number_of f.why), f.line)
 
 -- the block that the file says, in the slices, or the refusal and its line, and the slices are blank
 pub data ReadAs (file : List ℕ) (h : Held) : scope.Step (ℕ × (ℕ × ℕ)) × ℕ → Type 0 where

@@ -1,5 +1,5 @@
 -- What the slices and the numbers of the code say: a state of the definitions.
-use Rattle.std.specs.Prelude.{◌≡◌, true, List, [], ℕ, ◌+◌, ◌≤◌, ◌<◌, length, get_or}
+use Rattle.std.specs.Prelude.{◌≡◌, true, List, [], ℕ, Result, Ok, Err, ◌+◌, ◌≤◌, ◌<◌, length, get_or}
 use Rattle.std.proofs.Math.Option.{some}
 use Rattle.scope.specs.Types.{Table}
 use Rattle.scope.specs.Simplify.{Matrix}
@@ -10,8 +10,11 @@ use Rattle.table.specs.Build.{EndsInData}
 use Rattle.patterns.specs.Rows.{RowAt}
 use Rattle.order.specs.declared.State.{State}
 use Rattle.order.specs.Phases.{phase_of}
-use Rattle.reading.specs.declared.line.Step.{Step}
-use Rattle.reading.specs.declared.line.Step.TheVariants.{On, Refused}
+use Rattle.layout.specs.declared.tables.Tables.{Tables}
+use Rattle.layout.specs.declared.tables.Rows.{Rows as RowTables}
+use Rattle.layout.specs.declared.tables.Store.{Store}
+use Rattle.scope.specs.declared.refusal.Refusal.{Refusal}
+use Rattle.scope.specs.Numbers.{number_of}
 
 -- the slices: the decoded bytes, the type table's, and the rows'
 pub record Held : Type 0 where
@@ -30,6 +33,14 @@ pub record Held : Type 0 where
 -- the slices together
 abbrev pub held : List ℕ → List ℕ → List ℕ → List ℕ → List ℕ → List ℕ → List ℕ → List ℕ → List ℕ → List ℕ → List ℕ → Held
 held bytes kinds counts arities starts names fields labels nodes left rows = record { bytes = bytes; kinds = kinds; counts = counts; arities = arities; starts = starts; names = names; fields = fields; labels = labels; nodes = nodes; left = left; rows = rows }
+
+-- the slices of the bytes so far, the tables and the rows
+abbrev pub held_in : List ℕ → Tables → RowTables → Held
+held_in bytes t r = held bytes t.kinds t.counts t.arities t.starts t.names t.fields t.labels r.nodes r.left r.starts
+
+-- those of a store
+abbrev pub held_by : Store → Held
+held_by s = held_in s.bytes s.tables s.rows
 
 -- their lengths, by the limits
 pub record Sized (h : Held) : Type 0 where
@@ -77,9 +88,9 @@ pub record Known (h : Held) (s : State) : Type 0 where
   pub says : Says h s state
 
 -- document 01's number and values for each case: the numbers that go on; the refusal's number
-abbrev pub said_step : Step → scope.Step State
-said_step (On s) = ok s
-said_step (Refused n) = refuse n
+abbrev pub said_step : Result State Refusal → scope.Step State
+said_step (Ok s) = ok s
+said_step (Err e) = refuse (number_of e)
 
 -- what a line's answer says is what the definitions say: on with what the slices say, or the same refusal
 pub data Stepped (h : Held) : scope.Step State → scope.Step scope.State → Type 0 where

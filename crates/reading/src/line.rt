@@ -1,38 +1,35 @@
 // One line's bytes: its tests (4, 5, 6), then what the frame adds: 7, 8, 9.
-ghost use Rattle.std.specs.Prelude.{◌≡◌, ◌+◌, ◌-◌, ◌<◌, ◌≤◌, length, get_or, drop};
-ghost use Rattle.order.specs.Phases.{Numbers};
+
+ghost use Rattle.std.specs.Prelude.{◌≡◌, ◌+◌, ◌-◌, ◌≤◌, ◌<◌, ◌^◌, length, get_or, drop};
 ghost use Rattle.scope.specs.Blocks as scope;
 ghost use Rattle.scope.specs.Blocks.{framed};
-ghost use Rattle.reading.specs.Said.{held, Known, Says, said_step, Stepped};
-ghost use Rattle.reading.specs.Enters.{OneMore, ForClause, EntersUse, Ended};
+ghost use Rattle.order.specs.Phases.{Numbers};
+ghost use Rattle.reading.specs.Said.{held_in, Known, Says, said_step, Stepped};
+ghost use Rattle.reading.specs.Enters.{CtorEnters, EntersSubject, EntersClause, OneMore, ForClause};
 
-use cells::{at8, wide8};
-use frames::admitting::{Kind, kind_of};
+use cells::{get, low};
+use frames::admitting::kind_of;
 use fresh::is_fresh;
-use order::{State, has_nodes};
-use patterns::{Simplified, simplify};
+use layout::lent::Types;
+use layout::tables::{Rows, Tables};
+use order::{CLAUSES, CLOSED, State, has_nodes};
+use patterns::simplify;
+use scope::kinds::FrameKind;
+use scope::refusal::Refusal;
 use sound::is_sound;
 use table::{add_ctor, add_type};
-
-#[derive(Drop)]
-pub enum Step {
-    On(State),
-    Refused(u8),
-}
 
 // The numbers after the subject, which is type t.
 fn after_subject(s: State, t: usize) -> State
     ensures { Numbers result 2 s.types s.ctors s.fields t }
 {
     State {
-        phase: 2,
-        types: s.types,
-        ctors: s.ctors,
-        fields: s.fields,
+        phase: CLAUSES,
         subject: t,
         clauses: 0,
         used: 0,
         count: 0,
+        ..s
     }
 }
 
@@ -44,76 +41,65 @@ fn after_clause(s: State, n: usize) -> State
     ensures { OneMore s n result }
 {
     State {
-        phase: 2,
-        types: s.types,
-        ctors: s.ctors,
-        fields: s.fields,
-        subject: s.subject,
+        phase: CLAUSES,
         clauses: s.clauses + 1,
         used: s.used + n + 1,
         count: s.count + n,
+        ..s
     }
 }
 
-// 03 subject and 04 clause, which use the types.
-fn enter_use(
-    kind: u8,
-    bytes: &[u8],
-    at: usize,
-    s: State,
-    kinds: &[u8],
-    counts: &[u8],
-    arities: &[u8],
-    starts: &[u16],
-    fields: &[u8],
-    nodes: &mut [u16; 4160],
-    left: &mut [u16; 4160],
-    rows: &mut [u16; 64],
-) -> Step
+// 02 constructor of the type just above.
+fn enter_ctor(bytes: &[u8], at: usize, s: State, t: &mut Tables) -> Result<State, Refusal>
+    requires at_bound { at < 2 ^ 32 }
+    requires types_nonzero { 0 < s.types }
     requires types_bound { s.types ≤ 64 }
-    requires for_clause { (kind ≡ 3 → ⊥) → ForClause bytes.now at s fields.now nodes.old }
-    ensures { EntersUse kind bytes.now at s kinds.now counts.now arities.now starts.now fields.now nodes.old left.old rows.old nodes.new left.new rows.new result }
+    requires ctors_bound { s.ctors < 2 ^ 32 }
+    requires fields_bound { s.fields < 2 ^ 32 }
+    requires types_bound_2 { get_or t.old.counts (s.types - 1) 0 < 32 }
+    ensures { CtorEnters bytes.now at s t.old t.new result }
 {
-    if kind == 3 {
-        let t = wide8(at8(bytes, at));
-        if is_sound(kinds, counts, arities, starts, fields, s.fields, s.types, t) {
-            return Step::On(after_subject(s, t));
-        }
-        return Step::Refused(7);
+    if !is_fresh(&t.lend(bytes), at, s.types - 1) {
+        return Err(Refusal::Table);
     }
-    let mut stack = [0u16; 1920];
-    let r = simplify(
-        bytes, at, s.subject, kinds, counts, arities, starts, fields, &mut stack, nodes, left,
-        s.used,
-    );
-    let Simplified::Row { count } = r else {
-        return Step::Refused(8);
-    };
-    if has_nodes(s.count, count) {
-        let row = s.clauses;
-        let end = s.used + count;
-        nodes[end] = 0;
-        left[end] = 0;
-        rows[row] = (s.used % 65536) as u16;
-        return Step::On(after_clause(s, count));
-    }
-    Step::Refused(9)
+    Ok(add_ctor(bytes, at, s, t))
 }
 
-// 05 end.
-fn enter_end(s: State) -> State
-    ensures { Ended s result }
+// 03 subject.
+fn enter_subject(types: &Types<'_>, at: usize, s: State) -> Result<State, Refusal>
+    requires { s.types ≤ 64 }
+    ensures { EntersSubject types.now.bytes.now at s types.now.kinds.now types.now.counts.now types.now.arities.now types.now.starts.now types.now.fields.now result }
 {
-    State {
-        phase: 3,
-        types: s.types,
-        ctors: s.ctors,
-        fields: s.fields,
-        subject: s.subject,
-        clauses: s.clauses,
-        used: s.used,
-        count: s.count,
+    let t = usize::from(get(types.bytes, at));
+    if !is_sound(types, s.fields, s.types, t) {
+        return Err(Refusal::Table);
     }
+    Ok(after_subject(s, t))
+}
+
+// 04 clause.
+fn enter_clause(types: &Types<'_>, at: usize, s: State, rows: &mut Rows) -> Result<State, Refusal>
+    requires { ForClause types.now.bytes.now at s types.now.fields.now rows.old.nodes }
+    ensures { EntersClause types.now.bytes.now at s types.now.kinds.now types.now.counts.now types.now.arities.now types.now.starts.now types.now.fields.now rows.old.nodes rows.old.left rows.old.starts rows.new.nodes rows.new.left rows.new.starts result }
+{
+    let mut stack = [0u16; 1920];
+    let count = simplify(
+        types,
+        at,
+        s.subject,
+        &mut stack,
+        &mut rows.nodes,
+        &mut rows.left,
+        s.used,
+    )?;
+    if !has_nodes(s.count, count) {
+        return Err(Refusal::Nodes);
+    }
+    let end = s.used + count;
+    rows.nodes[end] = 0;
+    rows.left[end] = 0;
+    rows.starts[s.clauses] = low(s.used);
+    Ok(after_clause(s, count))
 }
 
 // How many constructors the last type has.
@@ -123,7 +109,7 @@ fn last_ctors(counts: &[u8; 64], types: usize) -> usize
     if types == 0 {
         return 0;
     }
-    wide8(at8(counts, types - 1))
+    usize::from(get(counts, types - 1))
 }
 
 // A line's bytes, which stand from `at` to the end.
@@ -131,54 +117,22 @@ pub fn enter_line(
     bytes: &[u8],
     at: usize,
     s: State,
-    kinds: &mut [u8; 64],
-    counts: &mut [u8; 64],
-    arities: &mut [u8; 2048],
-    starts: &mut [u16; 2048],
-    names: &mut [u16; 2048],
-    fields: &mut [u8; 5120],
-    labels: &mut [u16; 5120],
-    nodes: &mut [u16; 4160],
-    left: &mut [u16; 4160],
-    rows: &mut [u16; 64],
-) -> Step
-    requires known { Known (held bytes.now kinds.old counts.old arities.old starts.old names.old fields.old labels.old nodes.old left.old rows.old) s }
+    t: &mut Tables,
+    rows: &mut Rows,
+) -> Result<State, Refusal>
+    requires known { Known (held_in bytes.now t.old rows.old) s }
     requires at_in_bounds { at < length bytes.now }
     requires bytes_len_bound { length bytes.now ≤ 24576 }
     requires bytes_len_bound_2 { length bytes.now ≤ at + 640 }
-    ensures { (σ : scope.State) → Says (held bytes.now kinds.old counts.old arities.old starts.old names.old fields.old labels.old nodes.old left.old rows.old) s σ → Stepped (held bytes.now kinds.new counts.new arities.new starts.new names.new fields.new labels.new nodes.new left.new rows.new) (said_step result) (framed σ (drop at bytes.now)) }
+    ensures { (σ : scope.State) → Says (held_in bytes.now t.old rows.old) s σ → Stepped (held_in bytes.now t.new rows.new) (said_step result) (framed σ (drop at bytes.now)) }
 {
-    let k = kind_of(bytes, at, s, last_ctors(counts, s.types));
-    match k {
-        Kind::Refused(n) => {
-            return Step::Refused(n);
-        }
-        Kind::Is(kind) => {
-            let from = at + 1;
-            match kind {
-                1 => {
-                    return Step::On(add_type(
-                        bytes, from, s, kinds, counts, arities, starts, fields,
-                    ));
-                }
-                2 => {
-                    if is_fresh(bytes, from, names, counts, s.types - 1) {
-                        return Step::On(add_ctor(
-                            bytes, from, s, counts, arities, starts, names, fields, labels,
-                        ));
-                    }
-                    return Step::Refused(7);
-                }
-                5 => {
-                    return Step::On(enter_end(s));
-                }
-                _ => {
-                    return enter_use(
-                        kind, bytes, from, s, kinds, counts, arities, starts, fields, nodes, left,
-                        rows,
-                    );
-                }
-            }
-        }
+    let kind = kind_of(bytes, at, s, last_ctors(&t.counts, s.types))?;
+    let from = at + 1;
+    match kind {
+        FrameKind::TypeFrame => Ok(add_type(bytes, from, s, t)),
+        FrameKind::ConstructorFrame => enter_ctor(bytes, from, s, t),
+        FrameKind::SubjectFrame => enter_subject(&t.lend(bytes), from, s),
+        FrameKind::ClauseFrame => enter_clause(&t.lend(bytes), from, s, rows),
+        FrameKind::EndFrame => Ok(State { phase: CLOSED, ..s }),
     }
 }

@@ -5,80 +5,59 @@
 ghost use Rattle.std.specs.Prelude.{◌≤◌, length};
 
 use block::print::print;
-use cells::wide8;
 
-// A number, how many digits it has, and the byte after it, which is none; no digits where it has over six.
-#[derive(Drop)]
-pub struct Number {
-    value: usize,
-    digits: usize,
-    after: usize,
+// A number of one to six digits, if one is there, and the byte after it, if there is one.
+#[derive(Clone, Copy)]
+struct Number {
+    value: Option<usize>,
+    after: Option<u8>,
 }
 
-// What became of a file: it is answered, there is none, there is no length before it, or the input ends within it.
-#[derive(Drop)]
-pub enum Outcome {
-    Answered,
+// Why no further file is answered: there is none, there is no length before it, or the input ends within it.
+#[derive(Clone, Copy)]
+enum Stop {
     End,
     NoLength,
     CutShort,
 }
 
-// The next byte of the input, or 256 at its end.
-fn next() -> usize {
+// The next byte of the input.
+fn next() -> Option<u8> {
     let mut one = [0u8; 1];
-    let got = io::read_full(0, &mut one);
-    if got == 0 {
-        return 256;
+    if io::read_full(0, &mut one) == 0 {
+        return None;
     }
-    wide8(one[0])
+    Some(one[0])
 }
 
-// A number of six digits at most.
+// What a byte stands for as a digit.
+fn digit(byte: u8) -> Option<u8> {
+    if byte.is_ascii_digit() {
+        return Some(byte - b'0');
+    }
+    None
+}
+
+// A number is read, and the byte after it.
 fn read_number() -> Number {
     let mut value: usize = 0;
-    let mut digits: usize = 0;
-    while digits < 7 {
-        let after = next();
-        if after < 48 {
-            return Number {
-                value,
-                digits,
-                after,
-            };
-        }
-        if 57 < after {
-            return Number {
-                value,
-                digits,
-                after,
-            };
-        }
-        value = (value * 10 + (after - 48)) % 1000000;
-        digits += 1;
+    let mut after = None;
+    for digits in 0..7 {
+        after = next();
+        let Some(d) = after.and_then(digit) else {
+            let value = if digits == 0 { None } else { Some(value) };
+            return Number { value, after };
+        };
+        value = (value * 10 + usize::from(d)) % 1_000_000;
     }
-    Number {
-        value: 0,
-        digits: 0,
-        after: 0,
-    }
+    Number { value: None, after }
 }
 
 // n bytes of the input, read and left.
 fn skip(n: usize) {
-    let mut left = n;
-    while 0 < left {
+    for _ in 0..n {
         next();
-        left -= 1;
     }
-}
-
-// The lesser of two numbers.
-fn least(a: usize, b: usize) -> usize
-    ensures upper_bound { result ≤ a }
-    ensures upper_bound_2 { result ≤ b }
-{
-    if a < b { a } else { b }
 }
 
 // The first m bytes of a report, with their number before them.
@@ -91,73 +70,60 @@ fn write_first(report: &[u8], m: usize)
 }
 
 // The answer for a file of n bytes, of which 49,153 are enough to refuse it, as far as the lent buffer holds it.
-fn answer(n: usize, cells: usize, room: usize) -> Outcome
+fn answer(n: usize, cells: usize, room: usize) -> Result<(), Stop>
     requires cells_bound { cells ≤ 16384 }
     requires room_bound { room ≤ 32768 }
 {
     let mut file = [0u8; 49153];
     let mut scratch = [0u16; 16384];
     let mut report = [0u8; 32768];
-    let k = least(n, 49153);
-    let got = io::read_full(0, &mut file[..k]);
-    if got < k {
-        return Outcome::CutShort;
+    let k = n.min(49153);
+    if io::read_full(0, &mut file[..k]) < k {
+        return Err(Stop::CutShort);
     }
     skip(n - k);
     let m = print(&file[..k], &mut scratch[..cells], &mut report[..room]);
-    write_first(&report, least(m, room));
-    Outcome::Answered
+    write_first(&report, m.min(room));
+    Ok(())
 }
 
 // The answer for a file of n bytes, after what is to be lent.
-fn lent(n: usize) -> Outcome {
+fn lent(n: usize) -> Result<(), Stop> {
     let cells = read_number();
-    if cells.digits == 0 || cells.after != 32 {
-        return Outcome::NoLength;
-    }
+    let (Some(many), Some(b' ')) = (cells.value, cells.after) else {
+        return Err(Stop::NoLength);
+    };
     let room = read_number();
-    if room.digits == 0 || room.after != 10 {
-        return Outcome::NoLength;
-    }
-    answer(n, least(cells.value, 16384), least(room.value, 32768))
+    let (Some(long), Some(b'\n')) = (room.value, room.after) else {
+        return Err(Stop::NoLength);
+    };
+    answer(n, many.min(16384), long.min(32768))
 }
 
 // One file of the input.
-fn step() -> Outcome {
-    let l = read_number();
-    if l.digits == 0 {
-        if l.after == 256 {
-            return Outcome::End;
-        }
-        return Outcome::NoLength;
+fn step() -> Result<(), Stop> {
+    let length = read_number();
+    match (length.value, length.after) {
+        (Some(n), Some(b' ')) => lent(n),
+        (Some(n), Some(b'\n')) => answer(n, 16384, 32768),
+        (None, None) => Err(Stop::End),
+        _ => Err(Stop::NoLength),
     }
-    if l.after == 32 {
-        return lent(l.value);
-    }
-    if l.after == 10 {
-        return answer(l.value, 16384, 32768);
-    }
-    Outcome::NoLength
 }
 
 fn main() {
-    let mut turns = u64::MAX;
-    while 0 < turns {
-        let s = step();
-        match s {
-            Outcome::Answered => {}
-            Outcome::End => {
-                return;
+    for _ in 0..u64::MAX {
+        if let Err(stop) = step() {
+            match stop {
+                Stop::End => {}
+                Stop::NoLength => {
+                    io::write_all(2, b"replay: no length before a file\n");
+                }
+                Stop::CutShort => {
+                    io::write_all(2, b"replay: the input ends within a file\n");
+                }
             }
-            Outcome::NoLength => {
-                io::write_all(2, b"replay: no length before a file\n");
-                return;
-            }
-            Outcome::CutShort => {
-                io::write_all(2, b"replay: the input ends within a file\n");
-                return;
-            }
+            return;
         }
-        turns -= 1;
     }
 }

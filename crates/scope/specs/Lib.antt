@@ -6,6 +6,8 @@ pub mod Lines
 pub mod Types
 pub mod Patterns
 pub mod Frames
+-- how the code names refusals and kinds
+pub mod Numbers
 -- "What is refused, and when": 7; then 8, which goes with what the walks make of a pattern; then the order of all that a line can be refused for
 pub mod Finite
 pub mod Constructors

@@ -10,9 +10,7 @@ use Rattle.layout.specs.Nodes.{row_of}
 use Rattle.nodes.proofs.Numbers.{same_nodes}
 use Rattle.nodes.specs.Opens.{due}
 use Rattle.nodes.specs.declared.Open.{Open}
-use Rattle.settle.specs.Settled.{rest_of, Due, Ends, Settled}
-use Rattle.settle.specs.declared.Next.{Next}
-use Rattle.settle.specs.declared.Next.TheVariants.{Read, Done, Wrong}
+use Rattle.settle.specs.Settled.{Next, Read, Done, rest_of, Due, Ends, Settled}
 
 -- items that do not begin with a node
 abbrev Stops : List Item → Type 0
@@ -35,17 +33,13 @@ same-run (x ∷ xs) (y ∷ ys) is js s t e =
 abbrev pub Alike : Next → Next → Type 0
 Alike (Read t depth place) (Read u height from) = (t ≡ u) × (place ≡ from)
 Alike (Read t depth place) (Done from) = ⊥
-Alike (Read t depth place) Wrong = ⊥
 Alike (Done place) (Read u height from) = ⊥
 Alike (Done place) (Done from) = place ≡ from
-Alike (Done place) Wrong = ⊥
-Alike Wrong r = ⊥
 
 module _ {bytes fields : List ℕ} {fs : List Open} {height at : ℕ} {nodes s a u b : List ℕ} {q r : Next} (h : Settled bytes fields fs height at nodes s a q) (k : Settled bytes fields fs height at nodes u b r) where
   stops : (stack : List ℕ) (x : Next) → Due (due fs) stack x → Stops (rest_of bytes fields stack x)
   stops stack (Read t depth place) d = tt
   stops stack (Done place) d = tt
-  stops stack Wrong d = absurd d
 
   run : (row_of bytes h.new ≡ row_of bytes k.new) × (rest_of bytes fields s q ≡ rest_of bytes fields u r)
   run = same-run (row_of bytes h.new) (row_of bytes k.new) (rest_of bytes fields s q) (rest_of bytes fields u r) (stops s q h.due_is) (stops u r k.due_is) (sym h.items ∙ k.items)
@@ -65,8 +59,5 @@ module _ {bytes fields : List ℕ} {fs : List Open} {height at : ℕ} {nodes s a
           same-type : {is js : List Item} → ◌≡◌ {A = List Item} (pat t ∷ is) (pat v ∷ js) → t ≡ v
           same-type z = cc
       go (Read t d p) (Done f) i j c w o = clash (cc)
-      go (Read t d p) Wrong i j c w o = absurd w
       go (Done p) (Read v e f) i j c w o = clash (cc)
       go (Done p) (Done f) i j c w o = i ∙ ap (λ (l : List ℕ). at + length l) same_new ∙ sym j
-      go (Done p) Wrong i j c w o = absurd w
-      go Wrong y i j c w o = absurd c

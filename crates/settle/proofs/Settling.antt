@@ -12,9 +12,7 @@ use Rattle.nodes.proofs.Runs.{stores, puts_append, literals_append, no_places, b
 use Rattle.nodes.specs.Opens.{wanted, open_at, opens, pending, due, cell_of, taken, end_of}
 use Rattle.nodes.specs.declared.Open.{Open}
 use Rattle.nodes.proofs.Pending.{opens-top, cell-plain, cell-literals, cell-short, end-plain, end-literals, end_short, taken-items, taken-due, tail-items, tail-due, end-items, end-due}
-use Rattle.settle.specs.Settled.{rest_of, Due, Ends, Settled}
-use Rattle.settle.specs.declared.Next.{Next}
-use Rattle.settle.specs.declared.Next.TheVariants.{Read, Done, Wrong}
+use Rattle.settle.specs.Settled.{Next, Read, Done, rest_of, Due, Ends, Settled}
 
 -- the open pattern that was taken from the top of the stack, and those below it
 pub next_open : (stack stack₀ : List ℕ) (depth : ℕ) (o : Open) → 0 < depth → stack ≡ stack₀ → o ≡ open_at stack (depth - 1) → opens stack₀ depth ≡ o ∷ opens stack (depth - 1)
@@ -87,12 +85,10 @@ module _ (bytes fields : List ℕ) (fs : List Open) (n from : ℕ) (nodes nodes'
       ends_more : (x : Next) → Ends (at + length q.new) k x → Ends (from + length (s.new ++ q.new)) height x
       ends_more (Read t depth place) e = (e.0 ∙ whole_length, e.1, omega (arith, e.2))
       ends_more (Done place) e = e ∙ whole_length
-      ends_more Wrong e = tt
 
       due-same : (x : Next) → Due (due hs) stack x → Due (due fs) stack x
       due-same (Read t depth place) e = s.due_is ∙ ap due g ∙ e
       due-same (Done place) e = s.due_is ∙ ap due g ∙ e
-      due-same Wrong e = e
 
 module _ (bytes fields stack : List ℕ) (below : ℕ) (o : Open) (nodes : List ℕ) (at t : ℕ) (low : t < 16384) where
   -- the tail of a list is next

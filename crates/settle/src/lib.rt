@@ -1,107 +1,86 @@
 // The nodes from one pattern that was read up to the next one to read.
 #![tactic(auto)]
 
-ghost use Rattle.std.specs.Prelude.{List, ◌∷◌, ℕ, ◌+◌, ◌*◌, ◌≤◌, ◌<◌, ◌^◌, length, set};
-ghost use Rattle.nodes.specs.Opens.{wanted, opens};
-ghost use Rattle.settle.specs.Settled.{Settled};
+ghost use Rattle.std.specs.Prelude.{List, ◌≡◌, ◌∷◌, ℕ, ◌+◌, ◌-◌, ◌*◌, ◌≤◌, ◌<◌, ◌^◌, length, set, MatchOption};
+ghost use Rattle.nodes.specs.Opens.{open_at, wanted, opens};
+ghost use Rattle.settle.specs.Settled.{Kept, came_to, Settled};
 
-use cells::{at8, put16, wide8, wide16};
-use nodes::{Open, cell, finish, list_type, push, take_one, top, wants};
+use cells::{get, put};
+use nodes::Open;
 
-// What comes after a pattern: the type of the next one to read, or none, or a pattern that does not suit.
+// How far a row has come: the open patterns on the stack, three cells each, and the nodes that are put.
 #[derive(Drop)]
-pub enum Next {
-    Read {
-        t: usize,
-        depth: usize,
-        place: usize,
-    },
-    Done {
-        place: usize,
-    },
-    Wrong,
+pub struct Walk<'a> {
+    pub stack: &'a mut [u16],
+    pub depth: usize,
+    pub nodes: &'a mut [u16],
+    pub place: usize,
 }
 
-// The next pattern of an open one on top of `below` others: a list's tail, an element after its cell, or an argument.
-fn advance(
-    fields: &[u8],
-    stack: &mut [u16],
-    below: usize,
-    o: Open,
-    nodes: &mut [u16],
-    at: usize,
-) -> Next
-    requires below_in_bounds { 3 * below + 3 ≤ length stack.old }
-    requires at_bound { at + 1 < 2 ^ 64 }
-    requires more_nonzero { 0 < wanted o.what o.more }
-    ensures { (bytes : List ℕ) → Settled bytes fields.now (o ∷ opens stack.old below) (below + 1) at nodes.old stack.new nodes.new result }
-{
-    if o.more == 0 {
-        return Next::Read {
-            t: list_type(o.what),
-            depth: below,
-            place: at,
-        };
+impl Walk<'_> {
+    // The open pattern on top of the stack.
+    fn top(&self) -> Option<Open>
+        requires { 3 * self.now.depth < 2 ^ 64 }
+        ensures { MatchOption result (self.now.depth ≡ 0) (λ o. (0 < self.now.depth) × (o ≡ open_at self.now.stack.now (self.now.depth - 1))) }
+    {
+        let below = self.depth.checked_sub(1)?;
+        Some(Open::top(self.stack, below))
     }
-    let t = wide8(at8(fields, wide16(o.field)));
-    let place = cell(nodes, at, o.what);
-    push(stack, below, take_one(o));
-    Next::Read {
-        t,
-        depth: below + 1,
-        place,
-    }
-}
 
-// Nodes up to the next pattern to read; done where none is left.
-fn settle(fields: &[u8], stack: &mut [u16], height: usize, nodes: &mut [u16], from: usize) -> Next
-    requires height_in_bounds { 3 * height ≤ length stack.old }
-    requires height_bound { from + 65536 * height + 65538 < 2 ^ 64 }
-    ensures { (bytes : List ℕ) → Settled bytes fields.now (opens stack.old height) height from nodes.old stack.new nodes.new result }
-{
-    let mut depth = height;
-    let mut at = from;
-    while 0 < depth {
-        depth -= 1;
-        let o = top(stack, depth);
-        if wants(o.what, o.more) {
-            return advance(fields, stack, depth, o, nodes, at);
+    // The type of the next pattern of an open one: a list's tail, an element after its cell, or an argument.
+    fn advance(&mut self, fields: &[u8], o: Open) -> usize
+        requires below_in_bounds { 3 * self.old.depth + 3 ≤ length self.old.stack.now }
+        requires at_bound { self.old.place + 1 < 2 ^ 64 }
+        requires more_nonzero { 0 < wanted o.what o.more }
+        ensures kept { Kept self.old self.new }
+        ensures settled { (bytes : List ℕ) → Settled bytes fields.now (o ∷ opens self.old.stack.now self.old.depth) (self.old.depth + 1) self.old.place self.old.nodes.now self.new.stack.now self.new.nodes.now (came_to (Some result) self.new.depth self.new.place) }
+    {
+        if o.more == 0 {
+            return o.list_type();
         }
-        at = finish(nodes, at, o.what);
+        self.place = o.cell(self.nodes, self.place);
+        o.take_one().push(self.stack, self.depth);
+        self.depth += 1;
+        usize::from(get(fields, usize::from(o.field)))
     }
-    Next::Done { place: at }
-}
 
-// A node, and those after it up to the next pattern.
-pub fn leaf(
-    fields: &[u8],
-    stack: &mut [u16],
-    depth: usize,
-    nodes: &mut [u16],
-    place: usize,
-    node: u16,
-) -> Next
-    requires depth_in_bounds { 3 * depth ≤ length stack.old }
-    requires depth_bound { place + 65536 * depth + 65539 < 2 ^ 64 }
-    ensures { (bytes : List ℕ) → Settled bytes fields.now (opens stack.old depth) depth (place + 1) (set nodes.old place node) stack.new nodes.new result }
-{
-    let next = put16(nodes, place, node);
-    settle(fields, stack, depth, nodes, next)
-}
+    // Nodes up to the next pattern to read, and its type; none where no pattern is left.
+    fn settle(&mut self, fields: &[u8]) -> Option<usize>
+        requires height_in_bounds { 3 * self.old.depth ≤ length self.old.stack.now }
+        requires height_bound { self.old.place + 65536 * self.old.depth + 65538 < 2 ^ 64 }
+        ensures kept { Kept self.old self.new }
+        ensures settled { (bytes : List ℕ) → Settled bytes fields.now (opens self.old.stack.now self.old.depth) self.old.depth self.old.place self.old.nodes.now self.new.stack.now self.new.nodes.now (came_to result self.new.depth self.new.place) }
+    {
+        while let Some(o) = self.top() {
+            self.depth -= 1;
+            if o.wants() {
+                return Some(self.advance(fields, o));
+            }
+            self.place = o.finish(self.nodes, self.place);
+        }
+        None
+    }
 
-// One more open pattern, and the nodes up to the next pattern.
-pub fn begin(
-    fields: &[u8],
-    stack: &mut [u16],
-    depth: usize,
-    o: Open,
-    nodes: &mut [u16],
-    place: usize,
-) -> Next
-    requires depth_in_bounds { 3 * depth + 3 ≤ length stack.old }
-    requires depth_bound { place + 65536 * (depth + 1) + 65538 < 2 ^ 64 }
-    ensures { (bytes : List ℕ) → Settled bytes fields.now (o ∷ opens stack.old depth) (depth + 1) place nodes.old stack.new nodes.new result }
-{
-    push(stack, depth, o);
-    settle(fields, stack, depth + 1, nodes, place)
+    // A node, and those after it up to the next pattern to read.
+    pub fn leaf(&mut self, fields: &[u8], node: u16) -> Option<usize>
+        requires depth_in_bounds { 3 * self.old.depth ≤ length self.old.stack.now }
+        requires depth_bound { self.old.place + 65536 * self.old.depth + 65539 < 2 ^ 64 }
+        ensures kept { Kept self.old self.new }
+        ensures settled { (bytes : List ℕ) → Settled bytes fields.now (opens self.old.stack.now self.old.depth) self.old.depth (self.old.place + 1) (set self.old.nodes.now self.old.place node) self.new.stack.now self.new.nodes.now (came_to result self.new.depth self.new.place) }
+    {
+        self.place = put(self.nodes, self.place, node);
+        self.settle(fields)
+    }
+
+    // One more open pattern, and the nodes up to the next pattern to read.
+    pub fn begin(&mut self, fields: &[u8], o: Open) -> Option<usize>
+        requires depth_in_bounds { 3 * self.old.depth + 3 ≤ length self.old.stack.now }
+        requires depth_bound { self.old.place + 65536 * (self.old.depth + 1) + 65538 < 2 ^ 64 }
+        ensures kept { Kept self.old self.new }
+        ensures settled { (bytes : List ℕ) → Settled bytes fields.now (o ∷ opens self.old.stack.now self.old.depth) (self.old.depth + 1) self.old.place self.old.nodes.now self.new.stack.now self.new.nodes.now (came_to result self.new.depth self.new.place) }
+    {
+        o.push(self.stack, self.depth);
+        self.depth += 1;
+        self.settle(fields)
+    }
 }

@@ -1,19 +1,18 @@
 -- What is known of the types, as 64 flags and as a list: one constructor, one type, one round.
 use mathlib.Core.Path.{◌≡◌, refl, sym, ap, ◌∙◌}
-use mathlib.Core.Bool.{Bool, true, false, ◌||◌}
+use mathlib.Core.Bool.{Bool, false, ◌||◌}
 use mathlib.Core.List.{List, [], ◌∷◌, ◌++◌, map}
-use Prim.Native.Nat.{ℕ, zero, suc, ◌+◌, ◌*◌, ◌≤◌, ◌<◌}
+use Prim.Native.Nat.{ℕ, zero, suc, ◌+◌, ◌*◌, ◌≤◌}
 use native.Mathlib.Nat.{zero-add}
 use native.Mathlib.Omega.{arith}
 use native.Mathlib.Numerals.{add-one}
 use lib.ListN.{length, get_or, drop, replicate}
 use lib.Seq.{sets-eq, get_or-drop}
-use lib.Dec.{leb, ltb}
-use borrow.Author.Tests.{le-leb, lt-leb, lt-ltb, le-ltb}
+use lib.Dec.{leb}
 use Rattle.scope.specs.Lists.{all, any}
 use Rattle.scope.specs.Finite.{is_known}
 use Rattle.layout.specs.Places.{places, reads}
-use Rattle.sound.specs.Sound.{flags, fields_known, value_in, known_in, all_finite_in, is_sound_in}
+use Rattle.sound.specs.Sound.{flags, fields_known, value_in, known_in, all_finite_in}
 use Rattle.layout.proofs.Loops.{length-places, length-map}
 
 module _ {A : Type 0} (p q : A → Bool) (h : (x : A) → p x ≡ q x) where
@@ -46,19 +45,6 @@ flags-known : (known : List Bool) → length known ≤ 64 → (t : ℕ) → is_k
 flags-known known h t =
     ap (λ (l : List Bool). get_or l t false) (sets-eq known (replicate 64 false) 0 (rw (zero-add (length known)) h))
     ∙ before_default known (drop (0 + length known) (replicate 64 false)) (λ i. get_or-drop (0 + length known) (replicate 64 false) i false ∙ all-false 64 (0 + length known + i)) t
-
-module _ (kinds counts arities starts fields : List ℕ) (known : List Bool) where
-  pub ctor-known : (i s n : ℕ) → s ≡ get_or starts i 0 → n ≡ get_or arities i 0 → all (is_known known) (reads fields (places s n)) ≡ fields_known arities starts fields known i
-  unfolding fields_known
-  ctor-known i s n p q = rw (p, q)
-
-  pub value_simple : (t k : ℕ) → k ≡ get_or kinds t 0 → k ≤ 3 → true ≡ value_in kinds counts arities starts fields known t
-  unfolding value_in
-  value_simple t k e h = rw (← e, le-leb k 3 h)
-
-  pub value-ctors : (t k : ℕ) → k ≡ get_or kinds t 0 → 3 < k → any (fields_known arities starts fields known) (places (32 * t) (get_or counts t 0)) ≡ value_in kinds counts arities starts fields known t
-  unfolding value_in
-  value-ctors t k e h = rw (← e, lt-leb k 3 h)
 
 module _ (kinds counts arities starts fields : List ℕ) where
   value-flags : (known : List Bool) → length known ≤ 64 → (t : ℕ) → value_in kinds counts arities starts fields (flags known) t ≡ value_in kinds counts arities starts fields known t
@@ -94,19 +80,3 @@ module _ (kinds counts arities starts fields : List ℕ) where
       let few : length last ≤ 64 = omega (arith, known-length types types) in
       ap (λ (k : List Bool). all (value_in kinds counts arities starts fields k) (places 0 types)) (e ∙ ap (λ j. flags (known_in kinds counts arities starts fields types j)) t)
       ∙ all_same _ _ (value-flags last few) (places 0 types)
-
-  module _ (used types subject : ℕ) where
-    -- the subject is no reference
-    pub no_subject : types ≤ subject → false ≡ is_sound_in kinds counts arities starts fields used types subject
-    unfolding is_sound_in
-    no_subject h = rw (le-ltb subject types h)
-
-    -- some field is no reference
-    pub no_field : subject < types → false ≡ all (λ f. ltb f types) (reads fields (places 0 used)) → false ≡ is_sound_in kinds counts arities starts fields used types subject
-    unfolding is_sound_in
-    no_field h e = rw (lt-ltb subject types h, ← e)
-
-    -- all are references
-    pub all-refs : subject < types → true ≡ all (λ f. ltb f types) (reads fields (places 0 used)) → all_finite_in kinds counts arities starts fields types ≡ is_sound_in kinds counts arities starts fields used types subject
-    unfolding is_sound_in
-    all-refs h e = rw (lt-ltb subject types h, ← e)

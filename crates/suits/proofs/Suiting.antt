@@ -10,6 +10,7 @@ use lib.ListN.{length, get_or}
 use lib.Seq.{take_all}
 use lib.Dec.{ltb, leb, eqb}
 use borrow.Author.Tests.{ltb-true, leb-true, eqb-true, eq-eqb}
+use Rattle.std.specs.Prelude.{Result, Ok, Err}
 use Rattle.scope.proofs.Tests.{both}
 use Rattle.scope.specs.Lists.{bit}
 use Rattle.scope.specs.Types.{Ref, Table, type_at, kind}
@@ -23,33 +24,34 @@ use Rattle.rules.specs.Kinds.{suits_kind}
 use Rattle.nodes.proofs.Runs.{plain-one}
 use Rattle.nodes.proofs.Numbers.{literal-place, literal-node}
 use Rattle.suits.specs.Raws.{raw_at, size_at, own_place}
-use Rattle.suits.specs.Suits.{on_kind, filled_by, args_of, form_of, suit_at, meant, Sound}
+use Rattle.suits.specs.Suits.{unsuited, on_kind, filled_by, args_of, form_of, suit_at, meant, Sound}
+use Rattle.suits.specs.declared.Unsuited.{Unsuited}
 use Rattle.suits.specs.declared.Suit.{Suit}
-use Rattle.suits.specs.declared.Suit.TheVariants.{Leaf, Again, Cells, Args, Unfit}
+use Rattle.suits.specs.declared.Suit.TheVariants.{Leaf, Again, Cells, Args}
 use Rattle.suits.proofs.Facts.{pair_facts, tuple_facts}
 
--- how many patterns an answer reads, and that its numbers are bytes; a literal has its own place, kind and length
-abbrev pub Counted : List ℕ → ℕ → Suit → Raw → Type 0
-Counted bytes at (Leaf n) p = (inner p ≡ 0) × (places_in (n ∷ []) ≡ own_place (at % 32768) p) × (32768 ≤ n → (n ≡ literal_key at) × (size_at bytes at ≡ 2 + get_or bytes (at + 1) 0) × ((get_or bytes at 0 ≡ 3) ⊎ (get_or bytes at 0 ≡ 4)))
-Counted bytes at Again p = (inner p ≡ 1) × (own_place at p ≡ [])
-Counted bytes at (Cells k tail) p = (inner p ≡ k + bit tail) × (own_place at p ≡ []) × (k < 256)
-Counted bytes at (Args c k w) p = (inner p ≡ k) × (own_place at p ≡ []) × (c < 256) × (k < 256) × (w < 256)
-Counted bytes at Unfit p = Unit {0}
+-- how many patterns an answer reads; a literal has its own place, kind and length
+abbrev pub Counted : List ℕ → ℕ → Result Suit Unsuited → Raw → Type 0
+Counted bytes at (Ok (Leaf n)) p = (inner p ≡ 0) × (places_in (n ∷ []) ≡ own_place (at % 32768) p) × (32768 ≤ n → (n ≡ literal_key at) × (size_at bytes at ≡ 2 + get_or bytes (at + 1) 0) × ((get_or bytes at 0 ≡ 3) ⊎ (get_or bytes at 0 ≡ 4)))
+Counted bytes at (Ok Again) p = (inner p ≡ 1) × (own_place at p ≡ [])
+Counted bytes at (Ok (Cells k tail)) p = (inner p ≡ k + bit tail) × (own_place at p ≡ [])
+Counted bytes at (Ok (Args c k w)) p = (inner p ≡ k) × (own_place at p ≡ [])
+Counted bytes at (Err e) p = Unit {0}
 
-module _ (bytes kinds counts arities : List ℕ) (at t : ℕ) (small : (i : ℕ) → get_or bytes i 0 < 256) (narrow : (i : ℕ) → get_or arities i 0 < 256) where
-  on-kind : (ok : Bool) (s : Suit) (p : Raw) → Counted bytes at s p → Counted bytes at (on_kind ok s) p
+module _ (bytes kinds counts arities : List ℕ) (at t : ℕ) where
+  on-kind : (ok : Bool) (s : Result Suit Unsuited) (p : Raw) → Counted bytes at s p → Counted bytes at (on_kind ok s) p
   on-kind true s p h = h
   on-kind false s p h = tt
 
-  args-counted : (c k : ℕ) (spread : Bool) (p : Raw) → inner p ≡ k → own_place at p ≡ [] → c < 256 → k < 256 → Counted bytes at (args_of counts arities t c k spread) p
+  args-counted : (c k : ℕ) (spread : Bool) (p : Raw) → inner p ≡ k → own_place at p ≡ [] → Counted bytes at (args_of counts arities t c k spread) p
   unfolding args_of filled_by
-  args-counted c k spread p e o l m = go (ltb c (get_or counts t 0)) (eqb k n || (spread && leb k n))
+  args-counted c k spread p e o = go (ltb c (get_or counts t 0)) (eqb k n || (spread && leb k n))
     where
       n : ℕ
       n = get_or arities (32 * t + c) 0
 
-      go : (a b : Bool) → Counted bytes at (cond a (cond b (Args c k (n - k)) Unfit) Unfit) p
-      go true true = (e, o, l, m, omega (arith, narrow (32 * t + c)))
+      go : (a b : Bool) → Counted bytes at (cond a (cond b (Ok (Args c k (n - k))) unsuited) unsuited) p
+      go true true = (e, o)
       go true false = tt
       go false b = tt
 
@@ -62,14 +64,14 @@ module _ (bytes kinds counts arities : List ℕ) (at t : ℕ) (small : (i : ℕ)
       go zero e = rw e (refl, plain-one 0 (omega arith), λ h. absurd (omega arith))
       go (suc zero) e = rw e (refl, plain-one 0 (omega arith), λ h. absurd (omega arith))
       go (suc (suc zero)) e = rw e (refl, refl)
-      go (suc (suc (suc zero))) e = rw e (on-kind (eqb (get_or kinds t 0) 0) (Leaf (literal_key at)) (integer_of (text_at bytes (suc at))) (refl, literal-place at, λ h. (refl, rw e refl, inl e)))
-      go (suc (suc (suc (suc zero)))) e = rw e (on-kind (eqb (get_or kinds t 0) 1) (Leaf (literal_key at)) (byte_string_of (text_at bytes (suc at))) (refl, literal-place at, λ h. (refl, rw e refl, inr e)))
-      go (suc (suc (suc (suc (suc zero))))) e = rw e (on-kind (eqb (get_or kinds t 0) 3) (Cells (get_or bytes (at + 1) 0) (eqb (get_or bytes (at + 2) 0) 1)) (list_of (get_or bytes (at + 1) 0) (eqb (get_or bytes (at + 2) 0) 1)) (refl, refl, small (at + 1)))
+      go (suc (suc (suc zero))) e = rw e (on-kind (eqb (get_or kinds t 0) 0) (Ok (Leaf (literal_key at))) (integer_of (text_at bytes (suc at))) (refl, literal-place at, λ h. (refl, rw e refl, inl e)))
+      go (suc (suc (suc (suc zero)))) e = rw e (on-kind (eqb (get_or kinds t 0) 1) (Ok (Leaf (literal_key at))) (byte_string_of (text_at bytes (suc at))) (refl, literal-place at, λ h. (refl, rw e refl, inr e)))
+      go (suc (suc (suc (suc (suc zero))))) e = rw e (on-kind (eqb (get_or kinds t 0) 3) (Ok (Cells (get_or bytes (at + 1) 0) (eqb (get_or bytes (at + 2) 0) 1))) (list_of (get_or bytes (at + 1) 0) (eqb (get_or bytes (at + 2) 0) 1)) (refl, refl))
       go (suc (suc (suc (suc (suc (suc zero)))))) e =
           let p = constructor (get_or bytes (at + 1) 0) (get_or bytes (at + 2) 0) (eqb (get_or bytes (at + 3) 0) 1) in
-          rw e (on-kind (eqb (get_or kinds t 0) 6) (args_of counts arities t (get_or bytes (at + 1) 0) (get_or bytes (at + 2) 0) (eqb (get_or bytes (at + 3) 0) 1)) p (args-counted (get_or bytes (at + 1) 0) (get_or bytes (at + 2) 0) (eqb (get_or bytes (at + 3) 0) 1) p refl refl (small (at + 1)) (small (at + 2))))
-      go (suc (suc (suc (suc (suc (suc (suc zero))))))) e = rw e (on-kind (eqb (get_or kinds t 0) 5) (args_of counts arities t 0 2 false) pair_of (args-counted 0 2 false pair_of refl refl (omega arith) (omega arith)))
-      go (suc (suc (suc (suc (suc (suc (suc (suc x)))))))) e = rw e (on-kind (eqb (get_or kinds t 0) 4) (args_of counts arities t 0 (get_or bytes (at + 1) 0) false) (tuple_of (get_or bytes (at + 1) 0)) (args-counted 0 (get_or bytes (at + 1) 0) false (tuple_of (get_or bytes (at + 1) 0)) refl refl (omega arith) (small (at + 1))))
+          rw e (on-kind (eqb (get_or kinds t 0) 6) (args_of counts arities t (get_or bytes (at + 1) 0) (get_or bytes (at + 2) 0) (eqb (get_or bytes (at + 3) 0) 1)) p (args-counted (get_or bytes (at + 1) 0) (get_or bytes (at + 2) 0) (eqb (get_or bytes (at + 3) 0) 1) p refl refl))
+      go (suc (suc (suc (suc (suc (suc (suc zero))))))) e = rw e (on-kind (eqb (get_or kinds t 0) 5) (args_of counts arities t 0 2 false) pair_of (args-counted 0 2 false pair_of refl refl))
+      go (suc (suc (suc (suc (suc (suc (suc (suc x)))))))) e = rw e (on-kind (eqb (get_or kinds t 0) 4) (args_of counts arities t 0 (get_or bytes (at + 1) 0) false) (tuple_of (get_or bytes (at + 1) 0)) (args-counted 0 (get_or bytes (at + 1) 0) false (tuple_of (get_or bytes (at + 1) 0)) refl refl))
 
 -- all arguments and no wildcard
 all-arguments : (t : Ref) (k : ℕ) (fields : List Ref) → k ≡ length fields → (put (con t 0) ∷ arguments k fields) ≡ whole t fields
@@ -79,11 +81,11 @@ all-arguments t k fields e =
 
 module _ (bytes kinds counts arities : List ℕ) (at t : ℕ) (table : Table) (shape : Shape kinds counts arities table) (here : t < length table) (low : at < 32768) where
   -- an answer and what a pattern becomes
-  record Agree (s : Suit) (o : Option (List Item)) : Type 0 where
+  record Agree (s : Result Suit Unsuited) (o : Option (List Item)) : Type 0 where
     is : meant table bytes t s ≡ o
     sound : Sound table t s
 
-  when_kind : (k : ℕ) (s : Suit) (o : Option (List Item)) → (kind (type_at table t) ≡ k → Agree s o) → (eqb (kind (type_at table t)) k ≡ false → none ≡ o) → Agree (on_kind (eqb (get_or kinds t 0) k) s) o
+  when_kind : (k : ℕ) (s : Result Suit Unsuited) (o : Option (List Item)) → (kind (type_at table t) ≡ k → Agree s o) → (eqb (kind (type_at table t)) k ≡ false → none ≡ o) → Agree (on_kind (eqb (get_or kinds t 0) k) s) o
   when_kind k s o f g = rw (shape.kind_at t here) (go (eqb (kind (type_at table t)) k) refl)
     where
       go : (b : Bool) → eqb (kind (type_at table t)) k ≡ b → Agree (on_kind b s) o
@@ -102,11 +104,11 @@ module _ (bytes kinds counts arities : List ℕ) (at t : ℕ) (table : Table) (s
   unfolding args_of filled_by
   args-agree c k spread = rw (shape.count_at t here) (go (ltb c (length (ctors table t))) refl)
     where
-      go : (a : Bool) → ltb c (length (ctors table t)) ≡ a → Agree (cond a (filled_by c k spread (get_or arities (32 * t + c) 0)) Unfit) (suiting (a && enough k spread (fields_at table t c)) (put (con t c) ∷ arguments k (fields_at table t c)))
+      go : (a : Bool) → ltb c (length (ctors table t)) ≡ a → Agree (cond a (filled_by c k spread (get_or arities (32 * t + c) 0)) unsuited) (suiting (a && enough k spread (fields_at table t c)) (put (con t c) ∷ arguments k (fields_at table t c)))
       go false e = record { is = refl; sound = tt }
       go true e = rw (shape.arity_at t c here (ltb-true c (length (ctors table t)) e)) (in_all (enough k spread (fields_at table t c)) refl)
         where
-          in_all : (b : Bool) → enough k spread (fields_at table t c) ≡ b → Agree (cond b (Args c k (arity table t c - k)) Unfit) (suiting b (put (con t c) ∷ arguments k (fields_at table t c)))
+          in_all : (b : Bool) → enough k spread (fields_at table t c) ≡ b → Agree (cond b (Ok (Args c k (arity table t c - k))) unsuited) (suiting b (put (con t c) ∷ arguments k (fields_at table t c)))
           in_all true i = record { is = refl; sound = (ltb-true c (length (ctors table t)) e, omega (arith, enough_le k spread (arity table t c) i)) }
           in_all false i = record { is = refl; sound = tt }
 
@@ -116,16 +118,16 @@ module _ (bytes kinds counts arities : List ℕ) (at t : ℕ) (table : Table) (s
   suiting-left : (a b : Bool) (is : List Item) → a ≡ false → none ≡ suiting (a && b) is
   suiting-left a b is e = rw e
 
-  literal-agree : (k : ℕ) (l : Literal) → literal_at bytes at ≡ l → Agree (on_kind (eqb (get_or kinds t 0) k) (Leaf (literal_key at))) (suiting (eqb (kind (type_at table t)) k) (put (lit l) ∷ []))
+  literal-agree : (k : ℕ) (l : Literal) → literal_at bytes at ≡ l → Agree (on_kind (eqb (get_or kinds t 0) k) (Ok (Leaf (literal_key at)))) (suiting (eqb (kind (type_at table t)) k) (put (lit l) ∷ []))
   literal-agree k l e =
-      when_kind k (Leaf (literal_key at)) (suiting (eqb (kind (type_at table t)) k) (put (lit l) ∷ []))
+      when_kind k (Ok (Leaf (literal_key at))) (suiting (eqb (kind (type_at table t)) k) (put (lit l) ∷ []))
       (λ h. record { is = rw (eq-eqb (kind (type_at table t)) k h) (ap (λ (x : Node). some (put x ∷ [])) (literal-node bytes at low ∙ ap lit e)); sound = tt })
       (λ h. suiting-false (eqb (kind (type_at table t)) k) (put (lit l) ∷ []) h)
 
-  list-agree : (k : ℕ) (tail : Bool) → Agree (on_kind (eqb (get_or kinds t 0) 3) (Cells k tail)) (opened table t (list_of k tail))
+  list-agree : (k : ℕ) (tail : Bool) → Agree (on_kind (eqb (get_or kinds t 0) 3) (Ok (Cells k tail))) (opened table t (list_of k tail))
   list-agree k tail =
       let is = element_items t (get_or (fields_at table t 0) 0 0) k tail in
-      when_kind 3 (Cells k tail) (suiting (eqb (kind (type_at table t)) 3) is)
+      when_kind 3 (Ok (Cells k tail)) (suiting (eqb (kind (type_at table t)) 3) is)
       (λ h. record { is = rw (eq-eqb (kind (type_at table t)) 3 h); sound = h })
       (λ h. suiting-false (eqb (kind (type_at table t)) 3) is h)
 

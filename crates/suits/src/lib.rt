@@ -1,16 +1,32 @@
 // Whether the pattern at a place suits a type, and what it becomes there: refusal 8.
 #![tactic(auto)]
 
-ghost use Rattle.std.specs.Prelude.{◌≡◌, ◌<◌, ◌≤◌};
+ghost use Rattle.std.specs.Prelude.{◌≡◌, ◌<◌};
+ghost use Rattle.scope.specs.declared.refusal.Refusal.TheVariants as refusal;
 ghost use Rattle.nodes.specs.Keys.{literal_key};
-ghost use Rattle.suits.specs.Suits.{filled_by, args_of, form_of, suit_at};
+ghost use Rattle.suits.specs.Suits.{filled_by, args_of, suit_at, Few};
 
-use cells::{at8, wide8};
-use nodes::low;
+use cells::{get, low};
+use heads::{LITERALS, WILDCARD};
+use layout::lent::Types;
 use rules::{is_enough, suits_kind, wilds};
+use scope::kinds::PatternKind;
+use scope::refusal::Refusal;
+
+// A pattern that does not suit its type.
+#[derive(Clone, Copy, Debug, PartialEq, Eq)]
+pub struct Unsuited;
+
+impl From<Unsuited> for Refusal {
+    ghost from_gives = { λ u r. r ≡ refusal.Suit };
+
+    fn from(_: Unsuited) -> Refusal {
+        Refusal::Suit
+    }
+}
 
 // What the pattern at a place becomes, read at a type.
-#[derive(Drop)]
+#[derive(Clone, Copy, Debug, PartialEq, Eq)]
 pub enum Suit {
     // one node
     Leaf { node: u16 },
@@ -20,33 +36,34 @@ pub enum Suit {
     Cells { more: usize, tail: bool },
     // a constructor, its arguments and wildcards
     Args { c: usize, more: usize, wilds: usize },
-    // it does not suit the type
-    Unfit,
 }
 
 // Constructor c with k of its n arguments.
-fn filled(c: usize, k: usize, spread: bool, n: usize) -> Suit
-    ensures { result ≡ filled_by c k spread n }
+fn filled(c: usize, k: usize, spread: bool, n: usize) -> Result<Suit, Unsuited>
+    requires { (c < 256) × (k < 256) × (n < 256) }
+    ensures filled { result ≡ filled_by c k spread n }
+    ensures few { Few result }
 {
-    if is_enough(k, spread, n) {
-        return Suit::Args {
-            c,
-            more: k,
-            wilds: wilds(k, n),
-        };
+    if !is_enough(k, spread, n) {
+        return Err(Unsuited);
     }
-    Suit::Unfit
+    Ok(Suit::Args {
+        c,
+        more: k,
+        wilds: wilds(k, n),
+    })
 }
 
 // Constructor c of type t with k arguments.
-fn args(counts: &[u8], arities: &[u8], t: usize, c: usize, k: usize, spread: bool) -> Suit
-    requires { (t < 16384) × (c < 65536) }
-    ensures { result ≡ args_of counts.now arities.now t c k spread }
+fn args(types: &Types<'_>, t: usize, c: usize, k: usize, spread: bool) -> Result<Suit, Unsuited>
+    requires { (t < 16384) × (c < 256) × (k < 256) }
+    ensures args { result ≡ args_of types.now.counts.now types.now.arities.now t c k spread }
+    ensures few { Few result }
 {
-    if wide8(at8(counts, t)) <= c {
-        return Suit::Unfit;
+    if types.count(t) <= c {
+        return Err(Unsuited);
     }
-    filled(c, k, spread, wide8(at8(arities, 32 * t + c)))
+    filled(c, k, spread, usize::from(get(types.arities, 32 * t + c)))
 }
 
 // The node of the literal at `at`.
@@ -54,42 +71,36 @@ fn literal(at: usize) -> u16
     requires { at < 65536 }
     ensures { result ≡ literal_key at }
 {
-    low(32768 + at % 32768)
-}
-
-// A list, a constructor, a pair or a tuple at `at`, whose kind of type it suits.
-fn applied(bytes: &[u8], at: usize, what: u8, counts: &[u8], arities: &[u8], t: usize) -> Suit
-    requires { (at < 65536) × (t < 16384) × (5 ≤ what) }
-    ensures { result ≡ form_of bytes.now at counts.now arities.now t what }
-{
-    let a = wide8(at8(bytes, at + 1));
-    let b = at8(bytes, at + 2);
-    match what {
-        5 => Suit::Cells {
-            more: a,
-            tail: b == 1,
-        },
-        6 => args(counts, arities, t, a, wide8(b), at8(bytes, at + 3) == 1),
-        7 => args(counts, arities, t, 0, 2, false),
-        _ => args(counts, arities, t, 0, a, false),
-    }
+    LITERALS + low(at) % LITERALS
 }
 
 // The pattern at `at`, read at type t.
-pub fn suits(bytes: &[u8], at: usize, kinds: &[u8], counts: &[u8], arities: &[u8], t: usize) -> Suit
+pub fn suits(types: &Types<'_>, at: usize, t: usize) -> Result<Suit, Unsuited>
     requires { (at < 65536) × (t < 16384) }
-    ensures { result ≡ suit_at bytes.now at kinds.now counts.now arities.now t }
+    ensures suits { result ≡ suit_at types.now.bytes.now at types.now.kinds.now types.now.counts.now types.now.arities.now t }
+    ensures few { Few result }
 {
-    let what = at8(bytes, at);
-    if !suits_kind(what, at8(kinds, t)) {
-        return Suit::Unfit;
+    let what = get(types.bytes, at);
+    if !suits_kind(what, types.kind(t)) {
+        return Err(Unsuited);
     }
-    match what {
-        0 => Suit::Leaf { node: 0 },
-        1 => Suit::Leaf { node: 0 },
-        2 => Suit::Again,
-        3 => Suit::Leaf { node: literal(at) },
-        4 => Suit::Leaf { node: literal(at) },
-        _ => applied(bytes, at, what, counts, arities, t),
+    let a = usize::from(get(types.bytes, at + 1));
+    let b = get(types.bytes, at + 2);
+    match PatternKind::try_from(what) {
+        Ok(PatternKind::Discard) => Ok(Suit::Leaf { node: WILDCARD }),
+        Ok(PatternKind::Variable) => Ok(Suit::Leaf { node: WILDCARD }),
+        Ok(PatternKind::Assign) => Ok(Suit::Again),
+        Ok(PatternKind::Integer) => Ok(Suit::Leaf { node: literal(at) }),
+        Ok(PatternKind::ByteString) => Ok(Suit::Leaf { node: literal(at) }),
+        Ok(PatternKind::List) => Ok(Suit::Cells {
+            more: a,
+            tail: b == 1,
+        }),
+        Ok(PatternKind::Constructor) => {
+            args(types, t, a, usize::from(b), get(types.bytes, at + 3) == 1)
+        }
+        Ok(PatternKind::Pair) => args(types, t, 0, 2, false),
+        Ok(PatternKind::Tuple) => args(types, t, 0, a, false),
+        Err(_) => args(types, t, 0, a, false),
     }
 }

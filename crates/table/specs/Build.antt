@@ -1,9 +1,10 @@
 -- The slices of the type table after one more type, and after one more constructor of the data type just above.
-use Rattle.std.specs.Prelude.{◌≡◌, Bool, cond, List, [], ◌∷◌, ◌++◌, map, ℕ, ◌+◌, ◌*◌, ◌%◌, length, get_or, set, replicate, eqb}
+use Rattle.std.specs.Prelude.{◌≡◌, Bool, cond, List, [], ◌∷◌, ◌++◌, map, ℕ, ◌+◌, ◌-◌, ◌*◌, ◌%◌, length, get_or, set, replicate, eqb}
 use Rattle.std.proofs.lemmas.List.Edits.{sets}
 use Rattle.scope.specs.Types.{Ctor, dat, Table}
 use Rattle.scope.specs.Constructors.{built_ins}
 use Rattle.layout.specs.Places.{places, labelled, reads}
+use Rattle.layout.specs.declared.tables.Tables.{Tables}
 use Rattle.order.specs.declared.State.{State}
 use Rattle.order.specs.Phases.{Numbers}
 
@@ -40,6 +41,12 @@ pub record EntersType (bytes : List ℕ) (at : ℕ) (s : State) (kinds counts ar
   pub numbers : Numbers r (cond (eqb (get_or bytes at 0) 6) 1 0) (s.types + 1) s.ctors (s.fields + length (type_fields bytes at s.types)) 0
   pub with : WithType bytes at s.types s.fields kinds counts arities starts fields kinds' counts' arities' starts' fields'
 
+-- one more type in the table, and the numbers after it; the names and the labels stay
+pub record TypeEntered (bytes : List ℕ) (at : ℕ) (s : State) (old new : Tables) (r : State) : Type 0 where
+  pub entered : EntersType bytes at s old.kinds old.counts old.arities old.starts old.fields new.kinds new.counts new.arities new.starts new.fields r
+  pub names_stay : new.names ≡ old.names
+  pub labels_stay : new.labels ≡ old.labels
+
 -- where the labels' flag stands after a name
 abbrev pub flag_at : List ℕ → ℕ → ℕ
 flag_at bytes at = at + 1 + get_or bytes at 0
@@ -68,6 +75,12 @@ pub record WithCtor (bytes : List ℕ) (at t used : ℕ) (counts arities starts 
   pub names_are : names' ≡ set names (32 * t + get_or counts t 0) (low at)
   pub fields_are : fields' ≡ sets fields used (reads bytes (field_places bytes (flag_at bytes at) (arity_in bytes at)))
   pub labels_are : labels' ≡ labels_with bytes (flag_at bytes at) (arity_in bytes at) used labels
+
+-- one more constructor of the last type, and the numbers after it; the kinds stay
+pub record CtorEntered (bytes : List ℕ) (at : ℕ) (s : State) (old new : Tables) (r : State) : Type 0 where
+  pub numbers : Numbers r 1 s.types (s.ctors + 1) (s.fields + arity_in bytes at) 0
+  pub with_ctor : WithCtor bytes at (s.types - 1) s.fields old.counts old.arities old.starts old.names old.fields old.labels new.counts new.arities new.starts new.names new.fields new.labels
+  pub kinds_stay : new.kinds ≡ old.kinds
 
 -- the last type is a data type, with these constructors declared so far
 pub record EndsInData (table : Table) : Type 0 where

@@ -1,15 +1,17 @@
 // The type table. Constructor c of type t has the number 32 t + c; its fields are consecutive in `fields`, from `starts` on.
 #![tactic(auto)]
 
-ghost use Rattle.std.specs.Prelude.{◌≡◌, map, cond, ◌+◌, ◌-◌, ◌<◌, ◌≤◌, ◌^◌, eqb, length, get_or, replicate};
+ghost use Rattle.std.specs.Prelude.{◌≡◌, map, cond, ◌+◌, ◌-◌, ◌*◌, ◌<◌, ◌≤◌, ◌^◌, eqb, length, get_or, replicate};
 ghost use Rattle.std.proofs.lemmas.List.Edits.{sets};
 ghost use Rattle.layout.specs.Places.{places, labelled, reads};
 ghost use Rattle.order.specs.Phases.{Numbers};
-ghost use Rattle.table.specs.Build.{low, type_arities, type_fields, EntersType, flag_at, arity_in, field_places, labels_with, WithCtor};
+ghost use Rattle.table.specs.Build.{low, type_arities, type_fields, TypeEntered, flag_at, arity_in, field_places, labels_with, CtorEntered};
 
-use cells::{at8, put8, put16, wide8};
+use cells::{get, low, put};
 use layout::after_name;
-use order::State;
+use layout::tables::Tables;
+use order::{State, start};
+use scope::kinds::TypeKind;
 
 // The arities of the built-in constructors of a list: "::" with 2, "[]" with 0.
 pub const BUILT_IN: [u8; 2] = [2, 0];
@@ -21,41 +23,40 @@ fn put_fields(bytes: &[u8], at: usize, n: usize, fields: &mut [u8], from: usize)
     ensures value { result ≡ from + n }
     ensures fields_after { fields.new ≡ sets fields.old from (reads bytes.now (places at n)) }
 {
-    let end = from + n;
-    let mut k = from;
-    let mut p = at;
-    while k < end {
-        k = put8(fields, k, at8(bytes, p));
-        p += 1;
+    for k in 0..n {
+        put(fields, from + k, get(bytes, at + k));
     }
-    k
+    from + n
 }
 
 // The arities of the constructors that a type has before any is declared, from number i on; how many they are.
+#[tactic(auto, using(crate::proofs::Stores::part_stored), unfolding(crate::specs::Build::type_arities))]
 fn put_arities(bytes: &[u8], at: usize, arities: &mut [u8; 2048], i: usize) -> u8
     requires at_bound { at < 2 ^ 32 }
-    requires i_bound { i < 2048 }
+    requires i_bound { i + 2 ≤ 2048 }
     ensures value { result ≡ length (type_arities bytes.now at) }
+    ensures few { result ≤ 2 }
     ensures arities_after { arities.new ≡ sets arities.old i (type_arities bytes.now at) }
 {
-    let kind = at8(bytes, at);
-    if kind == 3 {
-        let built = BUILT_IN;
-        put_fields(&built, 0, 2, arities, i);
-        return 2;
+    match TypeKind::try_from(get(bytes, at)) {
+        Ok(TypeKind::List) => {
+            arities[i..i + 2].copy_from_slice(&BUILT_IN);
+            2
+        }
+        Ok(TypeKind::Tuple) => {
+            arities[i] = get(bytes, at + 1);
+            1
+        }
+        Ok(TypeKind::Pair) => {
+            arities[i] = 2;
+            1
+        }
+        _ => 0,
     }
-    if kind == 4 {
-        arities[i] = at8(bytes, at + 1);
-        return 1;
-    }
-    if kind == 5 {
-        arities[i] = 2;
-        return 1;
-    }
-    0
 }
 
 // The fields of those constructors, of the type t, written from `from` on; the place after them.
+#[tactic(auto, using(crate::proofs::Stores::length_reads), unfolding(crate::specs::Build::type_fields))]
 fn put_types(bytes: &[u8], at: usize, t: usize, fields: &mut [u8; 5120], from: usize) -> usize
     requires at_bound { at < 2 ^ 32 }
     requires t_bound { t < 64 }
@@ -63,84 +64,51 @@ fn put_types(bytes: &[u8], at: usize, t: usize, fields: &mut [u8; 5120], from: u
     ensures value { result ≡ from + length (type_fields bytes.now at t) }
     ensures fields_after { fields.new ≡ sets fields.old from (type_fields bytes.now at t) }
 {
-    let kind = at8(bytes, at);
-    if kind == 3 {
-        let next = put8(fields, from, at8(bytes, at + 1));
-        return put8(fields, next, (t % 256) as u8);
-    }
-    if kind == 4 {
-        return put_fields(bytes, at + 2, wide8(at8(bytes, at + 1)), fields, from);
-    }
-    if kind == 5 {
-        return put_fields(bytes, at + 1, 2, fields, from);
-    }
-    from
-}
-
-// n constructors, from number i on, whose fields all begin at `from`.
-fn put_starts(starts: &mut [u16; 2048], i: usize, n: usize, from: usize)
-    requires { i + n < 2 ^ 63 }
-    ensures { starts.new ≡ sets starts.old i (replicate n (low from)) }
-{
-    let end = i + n;
-    let mut k = i;
-    while k < end {
-        k = put16(starts, k, (from % 65536) as u16);
+    match TypeKind::try_from(get(bytes, at)) {
+        Ok(TypeKind::List) => {
+            put(fields, from, get(bytes, at + 1));
+            put(fields, from + 1, t as u8)
+        }
+        Ok(TypeKind::Tuple) => {
+            put_fields(bytes, at + 2, usize::from(get(bytes, at + 1)), fields, from)
+        }
+        Ok(TypeKind::Pair) => put_fields(bytes, at + 1, 2, fields, from),
+        _ => from,
     }
 }
 
-// The numbers after a type whose fields end at `end`; only a data type's constructors may follow.
+// The numbers after a type of this kind whose fields end at `end`; only a data type's constructors may follow.
 fn after_type(s: State, kind: u8, end: usize) -> State
     requires { s.types < 64 }
     ensures { Numbers result (cond (eqb kind 6) 1 0) (s.types + 1) s.ctors end 0 }
 {
-    if kind == 6 {
-        return State {
-            phase: 1,
-            types: s.types + 1,
-            ctors: s.ctors,
-            fields: end,
-            subject: 0,
-            clauses: 0,
-            used: 0,
-            count: 0,
-        };
-    }
+    let phase = match TypeKind::try_from(kind) {
+        Ok(TypeKind::Data) => 1,
+        _ => 0,
+    };
     State {
-        phase: 0,
+        phase,
         types: s.types + 1,
         ctors: s.ctors,
         fields: end,
-        subject: 0,
-        clauses: 0,
-        used: 0,
-        count: 0,
+        ..start()
     }
 }
 
 // One more type: its frame's bytes from the kind of type on.
-pub fn add_type(
-    bytes: &[u8],
-    at: usize,
-    s: State,
-    kinds: &mut [u8; 64],
-    counts: &mut [u8; 64],
-    arities: &mut [u8; 2048],
-    starts: &mut [u16; 2048],
-    fields: &mut [u8; 5120],
-) -> State
+pub fn add_type(bytes: &[u8], at: usize, s: State, t: &mut Tables) -> State
     requires at_bound { at < 2 ^ 32 }
     requires types_bound { s.types < 64 }
     requires fields_bound { s.fields < 2 ^ 32 }
-    ensures { EntersType bytes.now at s kinds.old counts.old arities.old starts.old fields.old kinds.new counts.new arities.new starts.new fields.new result }
+    ensures { TypeEntered bytes.now at s t.old t.new result }
 {
-    let t = s.types;
-    let kind = at8(bytes, at);
-    kinds[t] = kind;
-    let n = put_arities(bytes, at, arities, 32 * t);
-    counts[t] = n;
-    put_starts(starts, 32 * t, wide8(n), s.fields);
-    let end = put_types(bytes, at, t, fields, s.fields);
+    let kind = get(bytes, at);
+    let i = 32 * s.types;
+    let n = put_arities(bytes, at, &mut t.arities, i);
+    let end = put_types(bytes, at, s.types, &mut t.fields, s.fields);
+    t.kinds[s.types] = kind;
+    t.counts[s.types] = n;
+    t.starts[i..i + usize::from(n)].fill(low(s.fields));
     after_type(s, kind, end)
 }
 
@@ -159,18 +127,16 @@ fn put_labelled(
     ensures fields_after { fields.new ≡ sets fields.old from (reads bytes.now (labelled bytes.now at n)) }
     ensures labels_after { labels.new ≡ sets labels.old from (map (λ p. low (p + 1)) (labelled bytes.now at n)) }
 {
-    let end = from + n;
-    let mut k = from;
     let mut p = at;
-    while k < end {
-        put8(fields, k, at8(bytes, p));
-        p += 1;
-        k = put16(labels, k, (p % 65536) as u16);
-        p = after_name(bytes, p);
+    for k in 0..n {
+        put(fields, from + k, get(bytes, p));
+        put(labels, from + k, low(p + 1));
+        p = after_name(bytes, p + 1);
     }
 }
 
 // A constructor's fields, from its name's length on, written from `from` on; how many they are.
+#[tactic(auto, unfolding(crate::specs::Build::field_places, crate::specs::Build::labels_with))]
 fn put_parts(
     bytes: &[u8],
     at: usize,
@@ -185,13 +151,12 @@ fn put_parts(
     ensures labels_after { labels.new ≡ labels_with bytes.now (flag_at bytes.now at) (arity_in bytes.now at) from labels.old }
 {
     let flag = after_name(bytes, at);
-    let n = at8(bytes, flag + 1);
-    let m = wide8(n);
-    if at8(bytes, flag) == 0 {
-        put_fields(bytes, flag + 2, m, fields, from);
-        return n;
+    let n = get(bytes, flag + 1);
+    if get(bytes, flag) == 0 {
+        put_fields(bytes, flag + 2, usize::from(n), fields, from);
+    } else {
+        put_labelled(bytes, flag + 2, usize::from(n), fields, labels, from);
     }
-    put_labelled(bytes, flag + 2, m, fields, labels, from);
     n
 }
 
@@ -207,41 +172,27 @@ fn after_ctor(s: State, n: usize) -> State
         types: s.types,
         ctors: s.ctors + 1,
         fields: s.fields + n,
-        subject: 0,
-        clauses: 0,
-        used: 0,
-        count: 0,
+        ..start()
     }
 }
 
 // One more constructor of the last type: its frame's bytes from the name's length on.
-pub fn add_ctor(
-    bytes: &[u8],
-    at: usize,
-    s: State,
-    counts: &mut [u8; 64],
-    arities: &mut [u8; 2048],
-    starts: &mut [u16; 2048],
-    names: &mut [u16; 2048],
-    fields: &mut [u8; 5120],
-    labels: &mut [u16; 5120],
-) -> State
+pub fn add_ctor(bytes: &[u8], at: usize, s: State, t: &mut Tables) -> State
     requires at_bound { at < 2 ^ 32 }
     requires types_nonzero { 0 < s.types }
     requires types_bound { s.types ≤ 64 }
     requires ctors_bound { s.ctors < 2 ^ 32 }
     requires fields_bound { s.fields < 2 ^ 32 }
-    requires types_bound_2 { get_or counts.old (s.types - 1) 0 < 32 }
-    ensures numbers { Numbers result 1 s.types (s.ctors + 1) (s.fields + arity_in bytes.now at) 0 }
-    ensures with_ctor { WithCtor bytes.now at (s.types - 1) s.fields counts.old arities.old starts.old names.old fields.old labels.old counts.new arities.new starts.new names.new fields.new labels.new }
+    requires types_bound_2 { get_or t.old.counts (s.types - 1) 0 < 32 }
+    ensures { CtorEntered bytes.now at s t.old t.new result }
 {
-    let t = s.types - 1;
-    let c = counts[t];
-    counts[t] = c + 1;
-    let n = put_parts(bytes, at, fields, labels, s.fields);
-    let i = 32 * t + wide8(c);
-    arities[i] = n;
-    starts[i] = (s.fields % 65536) as u16;
-    names[i] = (at % 65536) as u16;
-    after_ctor(s, wide8(n))
+    let last = s.types - 1;
+    let c = t.counts[last];
+    let n = put_parts(bytes, at, &mut t.fields, &mut t.labels, s.fields);
+    let i = 32 * last + usize::from(c);
+    t.counts[last] = c + 1;
+    t.arities[i] = n;
+    t.starts[i] = low(s.fields);
+    t.names[i] = low(at);
+    after_ctor(s, usize::from(n))
 }

@@ -6,7 +6,8 @@ use Rattle.scope.specs.Constructors.{ctors, fields_at}
 use Rattle.scope.specs.Simplify.{Row}
 use Rattle.scope.specs.Text.{commas, skip, Mode, square, spelled, look, after_first, after_next, Place, alone, in_tail, texts, field_text, field_texts, pretty_ctor, pretty_at}
 use Rattle.layout.specs.Types.{text_at}
-use Rattle.writing.specs.Writing.{Wrote}
+use Rattle.writing.specs.declared.Writer.{Writer}
+use Rattle.writing.specs.Writing.{Writes}
 use Rattle.marks.specs.Marks.{open_text, close_text}
 use Rattle.text.specs.Rows.{Slices, Tabled, row_at, label_texts, Begins}
 
@@ -82,16 +83,17 @@ pub record CellOf (table : Table) (ts : List Ref) : Type 0 where
   pub are : ts ≡ fields_at table type 0
 
 -- for every table that the slices hold: where patterns of such types stand at p, their text is written, and q is the place after them
-pub record Printed (s : Slices) (types : Table → List Ref → Type 0) (p q : ℕ) (entry exit : List ℕ) (at after : ℕ) (text : Table → Row → Text) : Type 0 where
-  pub prints : (table : Table) → Tabled s table → (ts us : List Ref) → types table ts → Begins table (ts ++ us) (row_at s p) → Wrote entry exit at after (text table (row_at s p)) × (row_at s q ≡ skip table (row_at s p) (length ts))
+pub record Printed (s : Slices) (types : Table → List Ref → Type 0) (p q : ℕ) (before after : Writer) (text : Table → Row → Text) : Type 0 where
+  pub prints : (table : Table) → Tabled s table → (ts us : List Ref) → types table ts → Begins table (ts ++ us) (row_at s p) → Writes before after (text table (row_at s p)) × (row_at s q ≡ skip table (row_at s p) (length ts))
 
 -- room for places and text: no constructor has 256 arguments, and none needs 262,144 bytes of its own
 pub record Room (nodes p at most width : ℕ) : Type 0 where
   pub places : p + most + 256 * (nodes - p) < 2 ^ 62
   pub texts : at + width + 262144 * (nodes - p) < 2 ^ 62
 
--- how far a function comes, at least and at most, and how much it writes
-pub record Moved (nodes p at q after least most width : ℕ) : Type 0 where
+-- how far a function comes, at least and at most, and how much it writes, in the writer's buffer
+pub record Moved (nodes p q : ℕ) (before after : Writer) (least most width : ℕ) : Type 0 where
   pub forward : p + least ≤ q
   pub places : q + 256 * (nodes - q) ≤ p + most + 256 * (nodes - p)
-  pub texts : after + 262144 * (nodes - q) ≤ at + width + 262144 * (nodes - p)
+  pub texts : after.at + 262144 * (nodes - q) ≤ before.at + width + 262144 * (nodes - p)
+  pub same : after.out.ghost_name ≡ before.out.ghost_name

@@ -5,8 +5,10 @@ use Rattle.scope.specs.Types.{Ref, Table, type_at, kind}
 use Rattle.scope.specs.Constructors.{ctors, ctor_at, fields_at, cons_name}
 use Rattle.scope.specs.Simplify.{Literal, wild, lit, con, Row}
 use Rattle.laws.specs.Typed.{literal_kind}
+use Rattle.layout.specs.declared.lent.Types.{Types}
 use Rattle.layout.specs.Types.{text_at, Shape, Named}
 use Rattle.layout.specs.Nodes.{row_of}
+use Rattle.text.specs.declared.pretty.Printer.{Printer}
 
 -- what the printer reads
 pub record Slices : Type 0 where
@@ -21,6 +23,14 @@ pub record Slices : Type 0 where
 -- these slices
 abbrev pub slices : List ℕ → List ℕ → List ℕ → List ℕ → List ℕ → List ℕ → List ℕ → Slices
 slices bytes kinds arities starts names labels nodes = record { bytes = bytes; kinds = kinds; arities = arities; starts = starts; names = names; labels = labels; nodes = nodes }
+
+-- the slices of a type table, and nodes
+abbrev pub lent : Types → List ℕ → Slices
+lent t nodes = slices t.bytes.now t.kinds.now t.arities.now t.starts.now t.names.now t.labels.now nodes
+
+-- what this printer reads
+abbrev pub held : Printer → Slices
+held p = lent p.types p.nodes.now
 
 -- the slices hold a type table, in which no declared constructor is named as a list cell is
 pub record Tabled (s : Slices) (table : Table) : Type 0 where

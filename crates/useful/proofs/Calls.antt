@@ -1,32 +1,34 @@
 -- The walks' calls of one another, over plain lists: what each call asks, that the measure falls, and what each answer gives.
 use mathlib.Core.Path.{◌≡◌, refl, sym, ap, ap₂, subst, subst₂, ◌∙◌}
+use mathlib.Core.Logic.{⊎_elim}
 use mathlib.Core.Bool.{Bool, true, false}
 use mathlib.Core.List.{List, ◌∷◌, ◌++◌, map}
 use Prim.Native.Nat.{ℕ, suc, ◌+◌, ◌*◌, ◌-◌, ◌≤◌, ◌<◌}
-use native.Mathlib.Nat.{add-zero, mul-le-mul, mul-one, one-mul}
+use native.Mathlib.Nat.{add-zero, sub-zero, mul-le-mul, mul-one, one-mul}
 use native.Mathlib.Omega.{arith}
 use lib.ListN.{length, get_or, take, drop, replicate, length-drop}
 use Rattle.scope.specs.Walks.{Walk}
 use Rattle.matrix.specs.Numbers.{Rows, ar_of, rows_by, head_of, mem, Seen, seen_of, matrix}
 use Rattle.walks.specs.Walks.{any_from, useful_by, useful_alt, useful_seen, useful_of, size}
 use Rattle.matrix.specs.Places.{head_at, steps, Places, Patterned, Written, Listed}
-use Rattle.useful.specs.Ready.{limited, new_row, Ready, Work, Walked}
+use Rattle.useful.specs.Ready.{limited, new_row, Splits, Ready, Work, Walked}
 use Rattle.scope.specs.Blocks.{ok}
 use Rattle.outcomes.specs.Past.{said_verdict}
+use Rattle.std.specs.Prelude.{Result, Ok, Err, IsErr}
+use Rattle.outcomes.specs.declared.TooMuch.{TooMuch}
 use Rattle.outcomes.specs.declared.Verdict.{Verdict}
 use Rattle.ctors.specs.declared.Ctors.{Ctors}
 use Rattle.ctors.specs.declared.Ctors.TheVariants.{Complete, Open}
 use Rattle.ctors.specs.Sets.{ctors_of}
-use Rattle.ctors.proofs.Found.{complete-is, open_is}
-use Rattle.outcomes.specs.declared.Verdict.TheVariants.{Done}
-use Rattle.turns.specs.declared.Turn.TheVariants.{Next, Last}
-use Rattle.turns.specs.Turns.{turn_of}
+use Rattle.ctors.proofs.Found.{AllSeen, complete-is, open_is, complete-seen}
 use Rattle.matrix.proofs.Arities.{arity_0}
-use Rattle.matrix.proofs.Specialised.{heads}
+use Rattle.matrix.proofs.Orders.{same_or}
+use Rattle.matrix.proofs.Specialised.{heads, few-places}
+use Rattle.matrix.proofs.Seen.{seen-few}
 use Rattle.matrix.proofs.Behind.{Behind, behind}
 use Rattle.walks.proofs.Measure.{size_default, size_alt, size-own, size-wild}
 use Rattle.useful.proofs.Limits.{done-is}
-use Rattle.useful.proofs.Turns.{row_real, row_add, patterned-some, patterned-next, turn-next, any_none_lem, any_last, any_no}
+use Rattle.useful.proofs.Turns.{row-suc, row_real, row_add, patterned-some, patterned-next, any_none_lem, any_over, any_yes, any_no}
 use Rattle.matrix.proofs.Fronts.{part}
 
 -- a product that is at least each of its factors
@@ -61,12 +63,9 @@ module _ (bytes nodes left counts ars : List ℕ) where
       record { sizes = r.sizes; places = subst (Places nodes left counts ars n) (sym q) r.places; pats = r.pats; inside = r.inside; low = r.low; space = omega (arith, r.space); cap = r.cap; wide = r.wide; some = r.some }
 
   -- `into`: the specialised matrix stands after the rows
-  module _ (low : (h : ℕ) → ar_of ars h ≤ 255) (row : List ℕ) (w n key : ℕ) (s : List ℕ) (rows room : ℕ) (r : Work nodes left counts ars row w (n - 1 + ar_of ars key) n s rows room) (k : ℕ) (e : List ℕ) (wr : Written s rows (steps bytes nodes left n key (take rows s)) k e) (a : ℕ) (ae : a ≡ ar_of ars key) where
+  module _ (row : List ℕ) (w n key : ℕ) (s : List ℕ) (rows room : ℕ) (r : Work nodes left counts ars row w (n - 1 + ar_of ars key) n s rows room) (k : ℕ) (e : List ℕ) (wr : Written s rows (steps bytes nodes left n key (take rows s)) k e) (a : ℕ) (ae : a ≡ ar_of ars key) (low : a ≤ 255) where
     stands : Behind bytes nodes left counts ars n key s rows k e a
     stands = behind bytes nodes left counts ars r.sizes.low n key r.some s rows r.places (omega (arith, r.space, r.low)) k e wr a ae
-
-    pub into-length : length e ≡ length s
-    into-length = stands.same
 
     pub into-ready : Ready nodes left counts ars row w (n - 1 + a) (take (length e - rows) (drop rows e)) k room
     into-ready =
@@ -78,7 +77,7 @@ module _ (bytes nodes left counts ars : List ℕ) where
           low = omega (arith, stands.few, r.low);
           space = omega (arith, ap length (part e rows), length-drop rows e, stands.same, stands.few, r.space);
           cap = r.cap;
-          wide = omega (arith, r.wide, low key);
+          wide = omega (arith, r.wide);
         }
 
     pub into-falls : (t : ℕ) → height (n - 1 + ar_of ars key) (rows_by bytes key (ar_of ars key) (matrix nodes left n (take rows s))) (new_row w row) 700 ≡ t
@@ -89,73 +88,79 @@ module _ (bytes nodes left counts ars : List ℕ) where
         = ap₂ (λ (x : ℕ) (y : Rows). size (n - 1 + x) (new_row w row ∷ y)) ae stands.is in
         omega arith
 
-    pub into-walked : (calls : ℕ) (e₂ : List ℕ) (v : Verdict)
+    pub into-walked : (calls : ℕ) (e₂ : List ℕ) (v : Result Verdict TooMuch)
         → Walked (take (length e - rows) (drop rows e)) k e₂ v calls room (useful_of bytes counts ars (n - 1 + a) (matrix nodes left (n - 1 + a) (take k (take (length e - rows) (drop rows e)))) (new_row w row))
         → Walked s rows (take rows e ++ (e₂ ++ drop (length e - rows) (drop rows e))) v calls room (useful_by bytes counts ars (useful_of bytes counts ars) (n - 1) (matrix nodes left n (take rows s)) (new_row w row) key)
     into-walked calls e₂ v h = record { kept = stands.kept e₂; is = h.is ∙ ap₂ (λ (x : ℕ) (y : Rows). limited calls room (useful_of bytes counts ars (n - 1 + x) y (new_row w row))) ae stands.is }
 
-  -- `try_each`
-  module _ (low : (h : ℕ) → ar_of ars h ≤ 255) (row : List ℕ) (w n key more : ℕ) (s : List ℕ) (rows room : ℕ) (r : Work nodes left counts ars row w (n - 1) n s rows room) where
-    pub each_work : (a : ℕ) → a ≡ ar_of ars key → Work nodes left counts ars row (w + a) (n - 1 + ar_of ars key) n s rows room
-    each_work a ae =
-        let same : n - 1 - w ≡ n - 1 + ar_of ars key - (w + a) = omega arith in
-        work_row row w (n - 1) n s rows room r row (w + a) (n - 1 + ar_of ars key) (omega (arith, r.inside)) (subst (Patterned ars row) same r.pats)
+  -- `try_each`: the constructors at rows that are those of s
+  module _ (row : List ℕ) (w n key more : ℕ) (s : List ℕ) (rows room : ℕ) where
+    -- the walk into one constructor
+    abbrev pub each : ℕ → Walk Bool
+    each = useful_alt bytes counts ars (useful_of bytes counts ars) (n - 1) (matrix nodes left n (take rows s)) (new_row w row)
 
-    key-seen : Listed (map (head_at nodes left n) (take rows s)) key more → 0 < more → mem key (map head_of (matrix nodes left n (take rows s))) ≡ true
-    key-seen sn p = subst₂ (λ (x : ℕ) (y : List ℕ). mem x y ≡ true) (add-zero key) (sym (heads nodes left counts ars n r.places)) (sn.each 0 p)
+    -- where the walks into the constructors stand before that of key + i
+    pub record Tried (calls₀ i calls : ℕ) (e : List ℕ) : Type 0 where
+      pub few : calls ≤ 65536
+      pub kept : take rows e ≡ take rows s
+      pub is : limited calls room (any_from each (key + i) (more - i)) ≡ limited calls₀ room (any_from each key more)
 
-    each_child : (a : ℕ) → a ≡ ar_of ars key → Listed (map (head_at nodes left n) (take rows s)) key more → 0 < more → 0 < key
-        → size (n - 1 + ar_of ars key) (new_row (w + a) row ∷ rows_by bytes key (ar_of ars key) (matrix nodes left n (take rows s))) < size n (new_row w row ∷ matrix nodes left n (take rows s))
-    each_child a ae sn p z =
-        let m = matrix nodes left n (take rows s) in
-        let less : suc (n - 1) ≡ n = omega (arith, r.some) in
-        subst₂ (λ (v : List ℕ) (j : ℕ). size (n - 1 + ar_of ars key) (v ∷ rows_by bytes key (ar_of ars key) (matrix nodes left n (take rows s))) < size j (new_row w row ∷ matrix nodes left n (take rows s)))
-        (sym (row_add w a row ∙ ap (λ (x : ℕ). replicate x 0 ++ new_row w row) ae)) less
-        (size_alt bytes ars (n - 1) m (new_row w row) key z (low key) (key-seen sn p))
+    pub tried-none : (calls : ℕ) → calls ≤ 65536 → Tried calls 0 calls s
+    tried-none calls le = record { few = le; kept = refl; is = ap₂ (λ (x y : ℕ). limited calls room (any_from each x y)) (add-zero key) (sub-zero more) }
 
-    pub each-into-falls : (t a : ℕ) → a ≡ ar_of ars key → Listed (map (head_at nodes left n) (take rows s)) key more → 0 < more → 0 < key
-        → height n (matrix nodes left n (take rows s)) (new_row w row) more ≡ t
-        → height (n - 1 + ar_of ars key) (rows_by bytes key (ar_of ars key) (matrix nodes left n (take rows s))) (new_row (w + a) row) 700 < t
-    unfolding height
-    each-into-falls t a ae sn p z q = omega (arith, each_child a ae sn p z)
+    -- one more constructor, which is in the column
+    module _ (r : Work nodes left counts ars row w (n - 1) n s rows room) (calls₀ i calls : ℕ) (e : List ℕ) (g : Tried calls₀ i calls e) (lt : i < more) (a : ℕ) (ae : a ≡ ar_of ars (key + i)) where
+      pub each_work : length e ≡ length s → Work nodes left counts ars row (w + a) (n - 1 + ar_of ars (key + i)) n e rows room
+      each_work l =
+          let same : n - 1 - w ≡ n - 1 + ar_of ars (key + i) - (w + a) = omega arith in
+          work_row row w (n - 1) n e rows room (work_kept row w (n - 1) n s rows room r e g.kept l) row (w + a) (n - 1 + ar_of ars (key + i)) (omega (arith, r.inside)) (subst (Patterned ars row) same r.pats)
 
-    pub each-falls : (t : ℕ) (e : List ℕ) → take rows e ≡ take rows s → 0 < more → height n (matrix nodes left n (take rows s)) (new_row w row) more ≡ t
-        → height n (matrix nodes left n (take rows e)) (new_row w row) (more - 1) < t
-    unfolding height
-    each-falls t e k p q = omega (arith, ap (λ (x : List ℕ). size n (new_row w row ∷ matrix nodes left n x)) k)
+      widened : new_row (w + a) row ≡ replicate (ar_of ars (key + i)) 0 ++ new_row w row
+      widened = row_add w a row ∙ ap (λ (x : ℕ). replicate x 0 ++ new_row w row) ae
 
-    -- the answer of the first constructor
-    module _ (calls a : ℕ) (ae : a ≡ ar_of ars key) (p : 0 < more) (e : List ℕ) (v : Verdict)
-        (h : Walked s rows e v calls room (useful_by bytes counts ars (useful_of bytes counts ars) (n - 1) (matrix nodes left n (take rows s)) (new_row (w + a) row) key)) where
-      one : Walk Bool
-      one = useful_alt bytes counts ars (useful_of bytes counts ars) (n - 1) (matrix nodes left n (take rows s)) (new_row w row) key
+      pub each-falls : (low : ar_of ars (key + i) ≤ 255) → Listed (map (head_at nodes left n) (take rows s)) key more → 0 < key → (t j : ℕ)
+          → height n (matrix nodes left n (take rows s)) (new_row w row) j ≡ t
+          → height (n - 1 + ar_of ars (key + i)) (rows_by bytes (key + i) (ar_of ars (key + i)) (matrix nodes left n (take rows e))) (new_row (w + a) row) 700 < t
+      unfolding height
+      each-falls low sn z t j q =
+          let m = matrix nodes left n (take rows s) in
+          let less : suc (n - 1) ≡ n = omega (arith, r.some) in
+          let seen : mem (key + i) (map head_of m) ≡ true = subst (λ (y : List ℕ). mem (key + i) y ≡ true) (sym (heads nodes left counts ars n r.places)) (sn.each i lt) in
+          let child : size (n - 1 + ar_of ars (key + i)) (new_row (w + a) row ∷ rows_by bytes (key + i) (ar_of ars (key + i)) (matrix nodes left n (take rows e))) < size n (new_row w row ∷ m)
+          = subst₂ (λ (x : Rows) (k : ℕ). size (n - 1 + ar_of ars (key + i)) x < size k (new_row w row ∷ m)) (ap₂ (λ (v : List ℕ) (y : List ℕ). v ∷ rows_by bytes (key + i) (ar_of ars (key + i)) (matrix nodes left n y)) (sym widened) (sym g.kept)) less (size_alt bytes ars (n - 1) m (new_row w row) (key + i) (omega arith) low seen) in
+          omega (arith, child)
 
-      first : said_verdict v ≡ limited calls room one
-      unfolding one
-      first = h.is ∙ ap (λ (x : List ℕ). limited calls room (useful_by bytes counts ars (useful_of bytes counts ars) (n - 1) (matrix nodes left n (take rows s)) x key)) (row_add w a row ∙ ap (λ (x : ℕ). replicate x 0 ++ new_row w row) ae)
+      -- the answer of the walk into it
+      module _ (v : Result Verdict TooMuch) (e₂ : List ℕ)
+          (h : Walked e rows e₂ v calls room (useful_by bytes counts ars (useful_of bytes counts ars) (n - 1) (matrix nodes left n (take rows e)) (new_row (w + a) row) (key + i))) where
+        first : said_verdict v ≡ limited calls room (each (key + i))
+        first = h.is ∙ ap₂ (λ (x y : List ℕ). limited calls room (useful_by bytes counts ars (useful_of bytes counts ars) (n - 1) (matrix nodes left n x) y (key + i))) g.kept widened
 
-      pub each_last : turn_of v ≡ Last → Walked s rows e v calls room (any_from (useful_alt bytes counts ars (useful_of bytes counts ars) (n - 1) (matrix nodes left n (take rows s)) (new_row w row)) key more)
-      unfolding one
-      each_last q = record { kept = h.kept; is = any_last (useful_alt bytes counts ars (useful_of bytes counts ars) (n - 1) (matrix nodes left n (take rows s)) (new_row w row)) key calls room more p v first q }
+        kept₂ : take rows e₂ ≡ take rows s
+        kept₂ = h.kept ∙ g.kept
 
-      said_no : (d : ℕ) → turn_of v ≡ Next d → ok (false, d) ≡ limited calls room one
-      said_no d q = sym (ap said_verdict (turn-next v d q)) ∙ first
+        pub each_over : (x : TooMuch) → v ≡ Err x → (v₂ : Result Verdict TooMuch) → IsErr v₂ → Walked s rows e₂ v₂ calls₀ room (any_from each key more)
+        each_over x q (Ok y) z = cc
+        each_over x q (Err y) z = record { kept = kept₂; is = any_over each (key + i) calls room (more - i) (omega arith) (sym (ap said_verdict q) ∙ first) ∙ g.is }
 
-      pub each-low : (d : ℕ) → turn_of v ≡ Next d → d ≤ 65536
-      each-low d q = (done-is calls room one false d (said_no d q)).few
+        pub each_yes : (x : Verdict) → v ≡ Ok x → x.yes ≡ true → Walked s rows e₂ (Ok x) calls₀ room (any_from each key more)
+        each_yes x q z =
+            let o : ok (true, x.calls) ≡ limited calls room (each (key + i)) = ap (λ (b : Bool). ok (b, x.calls)) (sym z) ∙ sym (ap said_verdict q) ∙ first in
+            record { kept = kept₂; is = ap (λ (b : Bool). ok (b, x.calls)) z ∙ any_yes each (key + i) calls room (more - i) x.calls (omega arith) o ∙ g.is }
 
-      pub each_no : (d : ℕ) → turn_of v ≡ Next d → (e₂ : List ℕ) (v₂ : Verdict)
-          → Walked e rows e₂ v₂ d room (any_from (useful_alt bytes counts ars (useful_of bytes counts ars) (n - 1) (matrix nodes left n (take rows e)) (new_row w row)) (key + 1) (more - 1))
-          → Walked s rows e₂ v₂ calls room (any_from (useful_alt bytes counts ars (useful_of bytes counts ars) (n - 1) (matrix nodes left n (take rows s)) (new_row w row)) key more)
-      unfolding one
-      each_no d q e₂ v₂ h₂ = record {
-        kept = h₂.kept ∙ h.kept;
-        is = h₂.is ∙ ap (λ (x : List ℕ). limited d room (any_from (useful_alt bytes counts ars (useful_of bytes counts ars) (n - 1) (matrix nodes left n x) (new_row w row)) (key + 1) (more - 1))) h.kept
-            ∙ any_no (useful_alt bytes counts ars (useful_of bytes counts ars) (n - 1) (matrix nodes left n (take rows s)) (new_row w row)) key calls room more d p (said_no d q);
-      }
+        pub each_no : (x : Verdict) → v ≡ Ok x → x.yes ≡ false → Tried calls₀ (i + 1) x.calls e₂
+        each_no x q z =
+            let o : ok (false, x.calls) ≡ limited calls room (each (key + i)) = ap (λ (b : Bool). ok (b, x.calls)) (sym z) ∙ sym (ap said_verdict q) ∙ first in
+            let up : key + (i + 1) ≡ key + i + 1 = omega arith in
+            let down : more - (i + 1) ≡ more - i - 1 = omega arith in
+            record {
+              few = (done-is calls room (each (key + i)) false x.calls o).few;
+              kept = kept₂;
+              is = ap₂ (λ (x' y' : ℕ). limited x.calls room (any_from each x' y')) up down ∙ any_no each (key + i) calls room (more - i) x.calls (omega arith) o ∙ g.is;
+            }
 
-    pub each_none : (calls : ℕ) → more ≡ 0 → calls ≤ 65536 → Walked s rows s (Done false calls) calls room (any_from (useful_alt bytes counts ars (useful_of bytes counts ars) (n - 1) (matrix nodes left n (take rows s)) (new_row w row)) key more)
-    each_none calls z le = record { kept = refl; is = any_none_lem (useful_alt bytes counts ars (useful_of bytes counts ars) (n - 1) (matrix nodes left n (take rows s)) (new_row w row)) key calls room more z le }
+    pub each_none : (calls₀ i calls : ℕ) (e : List ℕ) → Tried calls₀ i calls e → more ≤ i → Walked s rows e (Ok (record { yes = false; calls = calls })) calls₀ room (any_from each key more)
+    each_none calls₀ i calls e g le = record { kept = g.kept; is = any_none_lem each (key + i) calls room (more - i) (omega arith) g.few ∙ g.is }
 
   -- `wildcard`
   module _ (row : List ℕ) (w n : ℕ) (s : List ℕ) (rows room : ℕ) (r : Work nodes left counts ars row w (n - 1) n s rows room) where
@@ -179,7 +184,14 @@ module _ (bytes nodes left counts ars : List ℕ) where
     hd : map head_of (matrix nodes left n (take rows s)) ≡ map (head_at nodes left n) (take rows s)
     hd = heads nodes left counts ars n r.places
 
-    module _ (calls : ℕ) (x : Ctors) (xe : x ≡ ctors_of counts (map (head_at nodes left n) (take rows s)) (seen_of counts (map (head_at nodes left n) (take rows s)))) (e : List ℕ) (v : Verdict) where
+    -- all constructors that are tried, where all are seen
+    pub wild-seen : (x : Ctors) → x ≡ ctors_of counts (map (head_at nodes left n) (take rows s)) (seen_of counts (map (head_at nodes left n) (take rows s))) → (b k : ℕ) → x ≡ Complete b k → AllSeen counts (map (head_at nodes left n) (take rows s)) b k × (k ≤ 32)
+    wild-seen x xe b k q =
+        let hs = map (head_at nodes left n) (take rows s) in
+        let f = complete-is counts hs x b k q (seen_of counts hs) xe in
+        (complete-seen counts hs x b k q xe, omega (arith, f.1, seen-few counts hs (few-places nodes left counts ars n (take rows s) r.places r.some) b f.0))
+
+    module _ (calls : ℕ) (x : Ctors) (xe : x ≡ ctors_of counts (map (head_at nodes left n) (take rows s)) (seen_of counts (map (head_at nodes left n) (take rows s)))) (e : List ℕ) (v : Result Verdict TooMuch) where
       found : x ≡ ctors_of counts (map head_of (matrix nodes left n (take rows s))) (seen_of counts (map head_of (matrix nodes left n (take rows s))))
       found = xe ∙ ap (λ (hs : List ℕ). ctors_of counts hs (seen_of counts hs)) (sym hd)
 
@@ -200,44 +212,53 @@ module _ (bytes nodes left counts ars : List ℕ) where
 
   -- `is_useful`
   module _ (row : List ℕ) (w n : ℕ) (s : List ℕ) (rows room : ℕ) (r : Ready nodes left counts ars row w n s rows room) (pos : 0 < n) where
-    pub useful_falls : (t : ℕ) (v : List ℕ) → new_row w row ≡ 0 ∷ v → height n (matrix nodes left n (take rows s)) (new_row w row) 600 ≡ t → height n (matrix nodes left n (take rows s)) v 500 < t
-    unfolding height
-    useful_falls t v e q = omega (arith, size-wild n (matrix nodes left n (take rows s)) v, ap (λ (x : List ℕ). size n (x ∷ matrix nodes left n (take rows s))) e)
+    -- a row of one pattern or more has a head
+    pub split_some : 0 < w + length row
+    split_some = ⊎_elim (λ e. omega (arith, patterned-some ars r.pats (omega arith))) (λ z. omega arith) (same_or w 0)
 
-    pub useful_invented : 0 < w → (rows + 1) * n ≤ room → Work nodes left counts ars row (w - 1) (n - 1) n s rows (room - (rows + 1) * n)
-    useful_invented lw fit =
-        let same : n - w ≡ n - 1 - (w - 1) = omega (arith, r.inside) in
-        ready_work row w n s rows room r pos fit row (w - 1) (n - 1) (omega (arith, r.inside)) (subst (Patterned ars row) same r.pats)
+    module _ (h w' : ℕ) (row' : List ℕ) (sp : Splits w row h w' row') where
+      pub split-row : new_row w row ≡ h ∷ new_row w' row'
+      split-row = ⊎_elim
+          (λ i. row-suc w row i.0 ∙ ap₂ (λ (x y : ℕ). x ∷ new_row y row) (sym i.1) (sym i.2) ∙ ap (λ (x : List ℕ). h ∷ new_row w' x) (sym i.3))
+          (λ i. row_real w row i.0 (patterned-some ars r.pats (omega (arith, i.0))) ∙ ap₂ (λ (x : ℕ) (y : List ℕ). x ∷ y) (sym i.1) (sym i.3) ∙ ap (λ (j : ℕ). h ∷ new_row j row') (sym i.2))
+          sp
 
-    module _ (z : w ≤ 0) where
-      some_left : 0 < n - w
-      some_left = omega arith
+      split-pats : Patterned ars row' (n - 1 + ar_of ars h - w')
+      split-pats = ⊎_elim
+          (λ i.
+          let same : n - w ≡ n - 1 + ar_of ars h - w' = omega (arith, r.inside, i.0, i.2, ap (ar_of ars) i.1, arity_0 ars) in
+          subst₂ (Patterned ars) (sym i.3) same r.pats)
+          (λ i.
+          let same : n - w - 1 + ar_of ars (get_or row 0 0) ≡ n - 1 + ar_of ars h - w' = omega (arith, i.0, i.2, ap (ar_of ars) i.1) in
+          subst₂ (Patterned ars) (sym i.3) same (patterned-next ars r.pats (omega (arith, i.0))))
+          sp
 
-      pub row-some : 0 < length row
-      row-some = patterned-some ars r.pats some_left
+      split-inside : w' ≤ n - 1
+      split-inside = ⊎_elim (λ i. omega (arith, r.inside, i.2)) (λ i. omega (arith, i.2)) sp
 
-      pub row-split : new_row w row ≡ get_or row 0 0 ∷ take (length row - 1) (drop 1 row)
-      row-split =
-          let w0 : w ≡ 0 = omega arith in
-          row_real w row w0 row-some ∙ ap (λ (x : List ℕ). get_or row 0 0 ∷ x) (sym (part row 1))
+      pub split-work : (rows + 1) * n ≤ room → Work nodes left counts ars row' w' (n - 1 + ar_of ars h) n s rows (room - (rows + 1) * n)
+      split-work fit = ready_work row w n s rows room r pos fit row' w' (n - 1 + ar_of ars h) (omega (arith, split-inside)) split-pats
 
-      pats-on : Patterned ars (take (length row - 1) (drop 1 row)) (n - 1 + ar_of ars (get_or row 0 0) - 0)
-      pats-on =
-          let same : n - w - 1 + ar_of ars (get_or row 0 0) ≡ n - 1 + ar_of ars (get_or row 0 0) - 0 = omega arith in
-          subst₂ (Patterned ars) (sym (part row 1)) same (patterned-next ars r.pats some_left)
+      -- below a wildcard
+      pub split-wild : h ≡ 0 → (rows + 1) * n ≤ room → Work nodes left counts ars row' w' (n - 1) n s rows (room - (rows + 1) * n)
+      split-wild z fit =
+          let same : n - 1 + ar_of ars h ≡ n - 1 = omega (arith, ap (ar_of ars) z, arity_0 ars) in
+          subst (λ (k : ℕ). Work nodes left counts ars row' w' k n s rows (room - (rows + 1) * n)) same (split-work fit)
 
-      pub useful_wild_lem : get_or row 0 0 ≡ 0 → (rows + 1) * n ≤ room → Work nodes left counts ars (take (length row - 1) (drop 1 row)) 0 (n - 1) n s rows (room - (rows + 1) * n)
-      useful_wild_lem h fit =
-          let same : n - 1 + ar_of ars (get_or row 0 0) - 0 ≡ n - 1 - 0 = omega (arith, ap (ar_of ars) h, arity_0 ars) in
-          ready_work row w n s rows room r pos fit (take (length row - 1) (drop 1 row)) 0 (n - 1) (omega arith) (subst (Patterned ars (take (length row - 1) (drop 1 row))) same pats-on)
-
-      pub useful_own : (rows + 1) * n ≤ room → Work nodes left counts ars (take (length row - 1) (drop 1 row)) 0 (n - 1 + ar_of ars (get_or row 0 0)) n s rows (room - (rows + 1) * n)
-      useful_own fit = ready_work row w n s rows room r pos fit (take (length row - 1) (drop 1 row)) 0 (n - 1 + ar_of ars (get_or row 0 0)) (omega arith) pats-on
-
-      pub useful_own-falls : (t : ℕ) → ar_of ars (get_or row 0 0) ≤ 255 → (get_or row 0 0 ≡ 0 → ⊥) → height n (matrix nodes left n (take rows s)) (new_row w row) 600 ≡ t
-          → height (n - 1 + ar_of ars (get_or row 0 0)) (rows_by bytes (get_or row 0 0) (ar_of ars (get_or row 0 0)) (matrix nodes left n (take rows s))) (new_row 0 (take (length row - 1) (drop 1 row))) 700 < t
+      pub wild-falls : h ≡ 0 → (t : ℕ) → height n (matrix nodes left n (take rows s)) (new_row w row) 600 ≡ t → height n (matrix nodes left n (take rows s)) (new_row w' row') 500 < t
       unfolding height
-      useful_own-falls t low nz q =
+      wild-falls z t q =
+          let v = new_row w' row' in
           let m = matrix nodes left n (take rows s) in
+          let e : new_row w row ≡ 0 ∷ v = split-row ∙ ap (◌∷ v) z in
+          omega (arith, size-wild n m v, ap (λ (x : List ℕ). size n (x ∷ m)) e)
+
+      -- below a constructor or a literal
+      pub own-falls : (h ≡ 0 → ⊥) → ar_of ars h ≤ 255 → (t : ℕ) → height n (matrix nodes left n (take rows s)) (new_row w row) 600 ≡ t
+          → height (n - 1 + ar_of ars h) (rows_by bytes h (ar_of ars h) (matrix nodes left n (take rows s))) (new_row w' row') 700 < t
+      unfolding height
+      own-falls nz low t q =
+          let m = matrix nodes left n (take rows s) in
+          let v = new_row w' row' in
           let less : suc (n - 1) ≡ n = omega arith in
-          omega (arith, size-own bytes ars (n - 1) m (take (length row - 1) (drop 1 row)) (get_or row 0 0) nz low, ap (λ (x : List ℕ). size n (x ∷ m)) row-split, ap (λ (j : ℕ). size j ((get_or row 0 0 ∷ take (length row - 1) (drop 1 row)) ∷ m)) less)
+          omega (arith, size-own bytes ars (n - 1) m v h nz low, ap (λ (x : List ℕ). size n (x ∷ m)) split-row, ap (λ (j : ℕ). size j ((h ∷ v) ∷ m)) less)

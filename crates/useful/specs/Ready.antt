@@ -1,7 +1,8 @@
 -- What the walks of usefulness may assume, and what they leave.
-use Rattle.std.specs.Prelude.{◌≡◌, Bool, cond, List, ◌++◌, map, ℕ, ◌+◌, ◌*◌, ◌-◌, ◌≤◌, ◌<◌, length, take, replicate}
+use Rattle.std.specs.Prelude.{◌≡◌, Bool, cond, List, ◌++◌, map, ℕ, ◌+◌, ◌*◌, ◌-◌, ◌≤◌, ◌<◌, ◌⊎◌, length, get_or, take, drop, replicate, Result}
 use Rattle.scope.specs.Walks.{Walk}
 use Rattle.scope.specs.Blocks.{Step, ok, refuse}
+use Rattle.outcomes.specs.declared.TooMuch.{TooMuch}
 use Rattle.outcomes.specs.declared.Verdict.{Verdict}
 use Rattle.matrix.specs.Numbers.{head_of, seen_of, matrix}
 use Rattle.walks.specs.Walks.{any_from, useful_by, useful_alt, useful_seen, useful_of}
@@ -12,6 +13,10 @@ use Rattle.walks.specs.Limits.{within}
 -- the new row: w invented wildcards, then a part of the table
 abbrev pub new_row : ℕ → List ℕ → List ℕ
 new_row w row = replicate w 0 ++ row
+
+-- a head, and the row behind it: an invented wildcard, or what stands first in the table
+abbrev pub Splits : ℕ → List ℕ → ℕ → ℕ → List ℕ → Type 0
+Splits w row h w' row' = ((0 < w) × (h ≡ 0) × (w' ≡ w - 1) × (row' ≡ row)) ⊎ ((w ≡ 0) × (h ≡ get_or row 0 0) × (w' ≡ 0) × (row' ≡ drop 1 row))
 
 -- A matrix of rows of n patterns at the front of the scratch s, and the new row. Of 16,384 cells of scratch an open call takes at most 64, and its cells, rows + 1 at least, leave the room: so the scratch never ends before the room does
 pub record Ready (nodes left counts arities row : List ℕ) (w n : ℕ) (s : List ℕ) (rows room : ℕ) : Type 0 where
@@ -41,7 +46,7 @@ unfoldable pub limited : ℕ → ℕ → Walk Bool → Step (Bool × ℕ)
 limited calls room w = cond (within calls room w) (ok (w.result, calls + w.calls)) (refuse 10)
 
 -- what a walk leaves: the matrix at the front of the scratch s, which is e in the end, and the answer r that the limits make of the walk o
-pub record Walked (s : List ℕ) (rows : ℕ) (e : List ℕ) (r : Verdict) (calls room : ℕ) (o : Walk Bool) : Type 0 where
+pub record Walked (s : List ℕ) (rows : ℕ) (e : List ℕ) (r : Result Verdict TooMuch) (calls room : ℕ) (o : Walk Bool) : Type 0 where
   pub kept : take rows e ≡ take rows s
   pub is : said_verdict r ≡ limited calls room o
 

@@ -5,72 +5,66 @@ ghost use Rattle.std.specs.Prelude.{cond, ◌++◌, ◌+◌, ◌≤◌, ◌<◌,
 ghost use Rattle.scope.specs.Lists.{bytes as text};
 ghost use Rattle.scope.specs.Text.{decimal as decimalText};
 ghost use Rattle.scope.specs.Report.{as_line as line_of};
-ghost use Rattle.writing.specs.Writing.{Wrote};
+ghost use Rattle.writing.specs.Writing.{Writes};
 
-use cells::wide8;
-use writing::{all, byte};
+use itoa::Buffer;
+use writing::Writer;
 
 // A number in decimal, which has at most 20 digits.
-fn decimal(out: &mut [u8], at: usize, n: usize) -> usize
-    requires { at + 32 < 2 ^ 64 }
-    ensures wrote { Wrote out.old out.new at result (decimalText n) }
-    ensures upper_bound { result ≤ at + 20 }
+fn decimal(w: &mut Writer<'_>, n: usize)
+    requires { w.old.at + 32 < 2 ^ 64 }
+    ensures wrote { Writes w.old w.new (decimalText n) }
+    ensures upper_bound { w.new.at ≤ w.old.at + 20 }
 {
-    if n < 10 {
-        return byte(out, at, 48 + ((n % 10) as u8));
-    }
-    let next = decimal(out, at, n / 10);
-    byte(out, next, 48 + ((n % 10) as u8))
+    let mut digits = Buffer::new();
+    w.all(digits.format(n).as_bytes());
 }
 
 // One word or the other.
-pub fn either(yes: bool, out: &mut [u8], at: usize, word: &[u8], other: &[u8]) -> usize
-    requires word_bound { at + length word.now < 2 ^ 64 }
-    requires other_bound { at + length other.now < 2 ^ 64 }
-    ensures wrote { Wrote out.old out.new at result (cond yes word.now other.now) }
-    ensures upper_bound { result ≤ at + length word.now + length other.now }
+pub fn either(w: &mut Writer<'_>, yes: bool, word: &[u8], other: &[u8])
+    requires word_bound { w.old.at + length word.now < 2 ^ 64 }
+    requires other_bound { w.old.at + length other.now < 2 ^ 64 }
+    ensures wrote { Writes w.old w.new (cond yes word.now other.now) }
+    ensures upper_bound { w.new.at ≤ w.old.at + length word.now + length other.now }
 {
-    if yes {
-        return all(out, at, word);
-    }
-    all(out, at, other)
+    w.all(if yes { word } else { other })
 }
 
 // A word, and a number after it.
-pub fn numbered(out: &mut [u8], at: usize, word: &[u8], n: usize) -> usize
-    requires { at + length word.now + 32 < 2 ^ 64 }
-    ensures wrote { Wrote out.old out.new at result (word.now ++ decimalText n) }
-    ensures upper_bound { result ≤ at + length word.now + 20 }
+pub fn numbered(w: &mut Writer<'_>, word: &[u8], n: usize)
+    requires { w.old.at + length word.now + 32 < 2 ^ 64 }
+    ensures wrote { Writes w.old w.new (word.now ++ decimalText n) }
+    ensures upper_bound { w.new.at ≤ w.old.at + length word.now + 20 }
 {
-    let next = all(out, at, word);
-    decimal(out, next, n)
+    w.all(word);
+    decimal(w, n);
 }
 
 // The same at the end of a line.
-pub fn ended(out: &mut [u8], at: usize, word: &[u8], n: usize) -> usize
-    requires { at + length word.now + 32 < 2 ^ 64 }
-    ensures wrote { Wrote out.old out.new at result (line_of (word.now ++ decimalText n)) }
-    ensures upper_bound { result ≤ at + length word.now + 21 }
+pub fn ended(w: &mut Writer<'_>, word: &[u8], n: usize)
+    requires { w.old.at + length word.now + 32 < 2 ^ 64 }
+    ensures wrote { Writes w.old w.new (line_of (word.now ++ decimalText n)) }
+    ensures upper_bound { w.new.at ≤ w.old.at + length word.now + 21 }
 {
-    let next = numbered(out, at, word, n);
-    byte(out, next, 10)
+    numbered(w, word, n);
+    w.byte(b'\n');
 }
 
 // `calls` counts both kinds.
-pub fn calls_line(first: usize, second: usize, out: &mut [u8], at: usize) -> usize
-    requires { at + 64 < 2 ^ 62 }
-    ensures { Wrote out.old out.new at result (line_of (text "calls " ++ decimalText first ++ text " " ++ decimalText second)) }
+pub fn calls_line(w: &mut Writer<'_>, first: usize, second: usize)
+    requires { w.old.at + 64 < 2 ^ 62 }
+    ensures { Writes w.old w.new (line_of (text "calls " ++ decimalText first ++ text " " ++ decimalText second)) }
 {
-    let next = numbered(out, at, b"calls ", first);
-    ended(out, next, b" ", second)
+    numbered(w, b"calls ", first);
+    ended(w, b" ", second);
 }
 
 // What is printed for a refusal: its number and its line.
-pub fn refusal(number: u8, line: usize, out: &mut [u8], at: usize) -> usize
-    requires { at + 64 < 2 ^ 62 }
-    ensures wrote { Wrote out.old out.new at result (text "refused " ++ decimalText number ++ text " line " ++ decimalText line ++ text "\n") }
-    ensures upper_bound { result ≤ at + 64 }
+pub fn refusal(w: &mut Writer<'_>, number: u8, line: usize)
+    requires { w.old.at + 64 < 2 ^ 62 }
+    ensures wrote { Writes w.old w.new (text "refused " ++ decimalText number ++ text " line " ++ decimalText line ++ text "\n") }
+    ensures upper_bound { w.new.at ≤ w.old.at + 64 }
 {
-    let next = numbered(out, at, b"refused ", wide8(number));
-    ended(out, next, b" line ", line)
+    numbered(w, b"refused ", usize::from(number));
+    ended(w, b" line ", line);
 }

@@ -7,5 +7,5 @@ use Rattle.clause.proofs.list_pattern.Goals as goal
 
 pub returns : goal.returns
 returns c =
-    let e = list_read c.args.bytes.now c.args.at (c.wide8.result + c.wide8-2.result) c.flagged-r.result c.leaving.result c.leaving.ensures c.wide8-2.result (omega (arith, c.wide8.ensures, c.at8.ensures)) (c.wide8-2.ensures ∙ c.at8-2.ensures) c.flagged-r.ensures in
-    record { value = e; result_bound = list-few c.args.bytes.now c.args.at c.leaving.result (omega (arith, c.at8.ensures, c.at8.type_inv)) e }
+    let e = list_read c.args.bytes.now c.args.at (c.from.result + c.from-2.result) c.flagged-r.result c.leaving.result c.leaving.ensures c.from-2.result (omega (arith, c.from.ensures, c.get.ensures)) (c.from-2.ensures ∙ c.get-2.ensures) c.flagged-r.ensures in
+    record { value = e; result_bound = list-few c.args.bytes.now c.args.at c.leaving.result (omega (arith, c.get.ensures, c.get.type_inv)) e }

@@ -1,19 +1,13 @@
--- `column::all` meets its contract: the flags before i are up.
-use Rattle.column.proofs.Columns.{up_more, up_fail}
-use Rattle.matrix.specs.Places.{up_to}
-use native.Mathlib.Omega.{arith}
-use mathlib.Core.Path.{refl}
+-- `column::all` meets its contract: the flags are tested one after another.
+use Rattle.std.proofs.Common.{rules, tests, arith, ◌≡◌, Bool, take, ◌∙◌}
+use Rattle.std.specs.List.{list_all}
+use Rattle.std.proofs.lemmas.Iterator.{YieldsList-from_slice}
+use Rattle.std.proofs.lemmas.Iterator.Search.{all_from_yields_List}
+use Rattle.column.proofs.Columns.{up-all}
 use Rattle.column.proofs.all.Goals as goal
 
-pub loop-i-init : goal.loop-i-init
-unfolding up_to
-loop-i-init c =
-    (omega arith, refl)
-
-pub returns-then-not-flags-i : goal.returns-then-not-flags-i
-returns-then-not-flags-i c =
-    up_fail _ _ _ c.loop-i-test.true c.if-not-flags-i.true
-
-pub loop-i-preserved : goal.loop-i-preserved
-loop-i-preserved c =
-    (omega arith, up_more _ _ c.loop-i.invariant.1 c.if-not-flags-i.false)
+pub returns : goal.returns
+returns c =
+    let a = c.args in
+    let e : c.all.result ≡ list_all (λ (up : Bool). up) (take a.k a.flags) = all_from_yields_List (λ (up : Bool). up) _ _ c.all.result c.all.ensures.ran (YieldsList-from_slice (take a.k a.flags) (cc)) (λ x b q k. search (rules, tests)) in
+    e ∙ up-all a.flags a.k (omega arith)

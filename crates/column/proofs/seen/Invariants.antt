@@ -1,12 +1,7 @@
--- `column::seen` meets its contract: the flags are right of the rows before i.
+-- `column::seen` meets its contract: the flags are right of the rows so far.
 use Rattle.column.proofs.Columns.{Flags}
 use Rattle.matrix.specs.Places.{head_at}
-use lib.ListN.{length}
-use Prim.Native.Nat.{◌-◌, ◌≤◌}
 use Rattle.column.proofs.seen.Given as goal
 
-abbrev pub invariant-loop-i : goal.invariant-loop-i
-invariant-loop-i l = (l.i ≤ length l.ps) × Flags (head_at l.nodes l.left l.n) l.ps l.b l.i l.flags
-
-abbrev pub decreases-loop-i : goal.decreases-loop-i
-decreases-loop-i l = length l.ps - l.i
+abbrev pub invariant-loop-p : goal.invariant-loop-p
+invariant-loop-p l = Flags (head_at l.b.nodes.now l.b.left.now l.n) l.ps l.from l.p-index l.flags

@@ -1,11 +1,8 @@
 -- `ctors::unseen` meets its contract: the set is that of the flags from i on.
 use Rattle.ctors.specs.Sets.{down_set}
-use Prim.Native.Nat.{◌-◌, ◌≤◌}
+use Prim.Native.Nat.{◌-◌}
 use mathlib.Core.Path.{◌≡◌}
 use Rattle.ctors.proofs.unseen.Given as goal
 
 abbrev pub invariant-loop-i : goal.invariant-loop-i
-invariant-loop-i l = (l.i ≤ l.k) × (l.k ≤ 32) × (l.set ≡ down_set l.flags l.i (l.k - l.i))
-
-abbrev pub decreases-loop-i : goal.decreases-loop-i
-decreases-loop-i l = l.i
+invariant-loop-i l = l.set ≡ down_set l.flags l.i (l.k - l.i)

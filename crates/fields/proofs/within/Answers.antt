@@ -2,16 +2,17 @@
 use mathlib.Core.Path.{sym, ◌∙◌}
 use Rattle.scope.specs.Lists.{among}
 use Rattle.fields.proofs.Readers.{tells, passing-ends, passing-stops, passing-goes}
+use Rattle.fields.proofs.within.Goals.{else-at-bytes-via-then-at-bytes+else-among, else-at-bytes-via-else-at-bytes}
 use Rattle.fields.proofs.within.Goals as goal
 
-pub returns-then-bytes-at : goal.returns-then-bytes-at
-returns-then-bytes-at c =
-    tells _ _ _ (passing-ends (among c.args.lo c.args.hi) c.args.bytes.now c.args.at c.requires c.if-bytes-at.true)
+pub returns-then-among : goal.returns-then-among
+returns-then-among c =
+    tells _ _ _ (passing-goes (among c.args.lo c.args.hi) c.args.bytes.now c.args.at c.if-at-bytes.true (sym c.among.ensures ∙ c.if-among.true))
 
-pub returns-then-not-among : goal.returns-then-not-among
-returns-then-not-among c =
-    tells _ _ _ (passing-stops (among c.args.lo c.args.hi) c.args.bytes.now c.args.at c.if-bytes-at.false (sym c.among.ensures ∙ c.if-not-among.true))
-
-pub returns : goal.returns
-returns c =
-    tells _ _ _ (passing-goes (among c.args.lo c.args.hi) c.args.bytes.now c.args.at c.if-bytes-at.false (sym c.among.ensures ∙ c.if-not-among.false))
+pub returns-else-at-bytes : goal.returns-else-at-bytes
+returns-else-at-bytes c =
+    let good = among c.args.lo c.args.hi in
+    elim c.else-at-bytes.branch [
+      | else-at-bytes-via-then-at-bytes+else-among w ↦ tells _ _ _ (passing-stops good c.args.bytes.now c.args.at w.if-at-bytes.true (sym w.among.ensures ∙ w.if-among.false))
+      | else-at-bytes-via-else-at-bytes w ↦ tells _ _ _ (passing-ends good c.args.bytes.now c.args.at c.requires w.if-at-bytes.false)
+    ]

@@ -12,18 +12,23 @@ use Rattle.fresh.proofs.label_there.Goals as goal
 pub returns-then-same_at : goal.returns-then-same_at
 returns-then-same_at c =
     let a = c.args in
-    let l = c.loop-left in
-    sym (l.invariant.2 ∙ any_off (same_text (text_at a.bytes.now a.at)) _ _ _ (labels-step a.bytes.now l.q l.left (l.left - 1) (l.q + 1 + 1 + get_or a.bytes.now (l.q + 1) 0) (omega arith) refl) (sym c.same_at.ensures ∙ c.if-same_at.true))
+    let l = c.loop in
+    let step = labels-step a.bytes.now l.q (a.n - l.counter) (a.n - (l.counter + 1)) (l.q + 1 + 1 + get_or a.bytes.now (l.q + 1) 0) (omega arith) refl in
+    sym (l.invariant.decides ∙ any_off (same_text (text_at a.bytes.now a.at)) _ _ _ step (sym c.same_at.ensures ∙ c.if-same_at.true))
 
-pub loop-left-preserved : goal.loop-left-preserved
-loop-left-preserved c =
+pub loop-preserved : goal.loop-preserved
+loop-preserved c =
     let a = c.args in
-    let l = c.loop-left in
-    let after-name = c.after_name-q in
-    (omega arith, omega (arith, after-name.ensures.upper_bound), l.invariant.2 ∙ any-on (same_text (text_at a.bytes.now a.at)) _ _ _ (labels-step a.bytes.now l.q l.left (l.left - 1) after-name.result (omega arith) after-name.ensures.value) (sym c.same_at.ensures ∙ c.if-same_at.false))
+    let l = c.loop in
+    let next = c.after_name-q in
+    let step = labels-step a.bytes.now l.q (a.n - l.counter) (a.n - (l.counter + 1)) next.result (omega arith) next.ensures.value in
+    record {
+      near = omega (arith, next.ensures.upper_bound);
+      decides = l.invariant.decides ∙ any-on (same_text (text_at a.bytes.now a.at)) _ _ _ step (sym c.same_at.ensures ∙ c.if-same_at.false);
+    }
 
 pub returns : goal.returns
 returns c =
     let a = c.args in
-    let l = c.loop-left in
-    sym (l.invariant.2 ∙ any-end (same_text (text_at a.bytes.now a.at)) _ (labels-end a.bytes.now l.q l.left (omega arith)))
+    let l = c.loop in
+    sym (l.invariant.decides ∙ any-end (same_text (text_at a.bytes.now a.at)) _ (labels-end a.bytes.now l.q (a.n - l.counter) (omega arith)))

@@ -10,18 +10,21 @@ returns-then-label_there c =
     let a = c.args in
     let l = c.loop-more in
     let step = labels-step a.bytes.now l.q l.more (l.more - 1) c.after_name-next.result (omega arith) c.after_name-next.ensures.value in
-    sym (l.invariant.2 ∙ twice_off _ _ _ step (sym c.label_there.ensures ∙ c.if-label_there.true))
+    sym (l.invariant.decides ∙ twice_off _ _ _ step (sym c.label_there.ensures ∙ c.if-label_there.true))
 
 pub loop-more-preserved : goal.loop-more-preserved
 loop-more-preserved c =
     let a = c.args in
     let l = c.loop-more in
-    let after-name = c.after_name-next in
-    let step = labels-step a.bytes.now l.q l.more (l.more - 1) after-name.result (omega arith) after-name.ensures.value in
-    (omega arith, omega (arith, after-name.ensures.upper_bound), l.invariant.2 ∙ twice-on _ _ _ step (sym c.label_there.ensures ∙ c.if-label_there.false))
+    let next = c.after_name-next in
+    let step = labels-step a.bytes.now l.q l.more (l.more - 1) next.result (omega arith) next.ensures.value in
+    record {
+      near = omega (arith, next.ensures.upper_bound);
+      decides = l.invariant.decides ∙ twice-on _ _ _ step (sym c.label_there.ensures ∙ c.if-label_there.false);
+    }
 
 pub returns : goal.returns
 returns c =
     let a = c.args in
     let l = c.loop-more in
-    sym (l.invariant.2 ∙ twice-end _ (labels-end a.bytes.now l.q l.more (omega arith)))
+    sym (l.invariant.decides ∙ twice-end _ (labels-end a.bytes.now l.q l.more (omega arith)))

@@ -6,7 +6,7 @@ use Rattle.fresh.specs.Fresh.{label_texts}
 use Rattle.fresh.proofs.labels_twice.Given as goal
 
 abbrev pub invariant-loop-more : goal.invariant-loop-more
-invariant-loop-more l = (l.more ≤ l.n) × (l.q + 257 * l.more ≤ l.p + 257 * l.n) × (twice (label_texts l.bytes l.p l.n) ≡ twice (label_texts l.bytes l.q l.more))
-
-abbrev pub decreases-loop-more : goal.decreases-loop-more
-decreases-loop-more l = l.more
+invariant-loop-more l = record {
+  near : l.q + 257 * l.more ≤ l.p + 257 * l.n;
+  decides : twice (label_texts l.bytes l.p l.n) ≡ twice (label_texts l.bytes l.q l.more);
+}

@@ -9,8 +9,8 @@ use Rattle.hexadecimal.proofs.decode.Goals as goal
 
 pub loop-k-preserved : goal.loop-k-preserved
 loop-k-preserved c =
-    (omega arith, c.loop-k.invariant.1, ap (λ (x : List ℕ). set x (c.args.at + c.loop-k.k) c.byte_of.result) c.loop-k.invariant.2 ∙ decode-next c.args.ds.now c.args.out.now c.args.at c.loop-k.k c.byte_of.result (omega arith) c.byte_of.ensures)
+    (c.loop-k.invariant.0, ap (λ (x : List ℕ). set x (c.args.at + c.loop-k.k) c.byte_of.result) c.loop-k.invariant.1 ∙ decode-next c.args.ds.now c.args.out.now c.args.at c.loop-k.k c.byte_of.result (omega arith) c.byte_of.ensures)
 
 pub returns : goal.returns
 returns c =
-    record { value = omega (arith, length-unhex c.args.ds.now); out_after = c.loop-k.invariant.2 ∙ decode-done c.args.ds.now c.args.out.now c.args.at c.loop-k.k (omega arith) }
+    record { value = omega (arith, length-unhex c.args.ds.now); out_after = c.loop-k.invariant.1 ∙ decode-done c.args.ds.now c.args.out.now c.args.at c.loop-k.k (omega arith) }

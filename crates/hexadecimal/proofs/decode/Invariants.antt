@@ -1,5 +1,5 @@
 -- `hexadecimal::decode` meets its contract: in turn k the bytes before byte k are written.
-use Prim.Native.Nat.{◌≤◌, ◌-◌, ◌/◌}
+use Prim.Native.Nat.{◌/◌}
 use mathlib.Core.Path.{◌≡◌}
 use lib.ListN.{length, take}
 use lib.Seq.{sets}
@@ -7,7 +7,4 @@ use Rattle.scope.specs.Lines.{unhex}
 use Rattle.hexadecimal.proofs.decode.Given as goal
 
 abbrev pub invariant-loop-k : goal.invariant-loop-k
-invariant-loop-k l = (l.k ≤ l.n) × (l.n ≡ length l.ds / 2) × (l.out ≡ sets l.initial.out l.at (take l.k (unhex l.ds)))
-
-abbrev pub decreases-loop-k : goal.decreases-loop-k
-decreases-loop-k l = l.n - l.k
+invariant-loop-k l = (l.n ≡ length l.ds / 2) × (l.out ≡ sets l.initial.out l.at (take l.k (unhex l.ds)))

@@ -1,6 +1,6 @@
 -- `judge::judge` meets its contract: before clause k the calls and verdicts are those of the first k clauses.
-use Rattle.judge.proofs.Driver.{judges-all}
-use Rattle.judge.specs.declared.Judged.TheVariants.{Done, Over}
+use Rattle.judge.proofs.Driver.{said-err, judges-all}
+use Rattle.std.specs.Prelude.{Ok}
 use Rattle.judge.proofs.Clauses.{rising, none_yet, before-none, before-within, before-next, before-over, over-at, done_at, written-whole}
 use Rattle.scope.specs.Blocks.{ok}
 use Rattle.outcomes.specs.Past.{said_verdict}
@@ -17,26 +17,31 @@ use Rattle.judge.proofs.judge.Goals as goal
 pub loop-k-init : goal.loop-k-init
 loop-k-init c =
     let a = c.args in
-    (omega arith, refl, before-none a.bytes.now a.counts.now a.arities.now a.nodes.now a.starts.now a.verdicts.now)
+    (refl, before-none a.b.now.types.bytes.now a.b.now.types.counts.now a.b.now.types.arities.now a.b.now.nodes.now a.starts.now a.verdicts.now)
 
-pub returns-in_default : goal.returns-in_default
-returns-in_default c =
+pub returns-in_err-v : goal.returns-in_err-v
+returns-in_err-v c =
     let a = c.args in
-    let o = over-at (judged_to a.bytes.now a.counts.now a.arities.now a.nodes.now a.starts.now) (rising a.bytes.now a.counts.now a.arities.now a.nodes.now a.starts.now) c.loop-k.k (length a.starts.now) c.loop-k-test.true (none_yet a.bytes.now a.counts.now a.arities.now a.nodes.now a.starts.now c.loop-k.k) (before-within a.bytes.now a.counts.now a.arities.now a.nodes.now a.starts.now c.loop-k.k c.loop-k.calls a.verdicts.now c.loop-k.verdicts c.loop-k.invariant.2) (before-over a.bytes.now a.counts.now a.arities.now a.nodes.now a.starts.now c.loop-k.k c.loop-k.calls a.verdicts.now c.loop-k.verdicts c.loop-k.invariant.2 (sym (ap said_verdict c.in_default.is) ∙ c.clause-r.ensures)) in
-    let said : c.loop-k.verdicts ≡ sets a.verdicts.now 0 (map bit (written (judged_to a.bytes.now a.counts.now a.arities.now a.nodes.now a.starts.now) (length a.starts.now))) = c.loop-k.invariant.2.verdicts ∙ ap (λ l. sets a.verdicts.now 0 (map bit l)) (sym o.1) in
-    record { result_value = o.0; verdicts_after = said; judges_all = judges-all a.bytes.now a.nodes.now a.left.now a.counts.now a.arities.now a.starts.now c.requires.sizes.low a.verdicts.now c.loop-k.verdicts Over o.0 said }
+    let f = judged_to a.b.now.types.bytes.now a.b.now.types.counts.now a.b.now.types.arities.now a.b.now.nodes.now a.starts.now in
+    let g = c.loop-k.invariant.1 in
+    let w = before-within a.b.now.types.bytes.now a.b.now.types.counts.now a.b.now.types.arities.now a.b.now.nodes.now a.starts.now c.loop-k.k c.loop-k.calls a.verdicts.now c.loop-k.verdicts g in
+    let o = over-at f (rising a.b.now.types.bytes.now a.b.now.types.counts.now a.b.now.types.arities.now a.b.now.nodes.now a.starts.now) c.loop-k.k (length a.starts.now) c.loop-k-test.true (none_yet a.b.now.types.bytes.now a.b.now.types.counts.now a.b.now.types.arities.now a.b.now.nodes.now a.starts.now c.loop-k.k) w (before-over a.b.now.types.bytes.now a.b.now.types.counts.now a.b.now.types.arities.now a.b.now.nodes.now a.starts.now c.loop-k.k c.loop-k.calls a.verdicts.now c.loop-k.verdicts g (sym (ap said_verdict c.in_err-v.was) ∙ c.clause.ensures)) in
+    let is = said-err c.from_residual.result c.from_residual.ensures.0 ∙ o.0 in
+    let said : c.loop-k.verdicts ≡ sets a.verdicts.now 0 (map bit (written f (length a.starts.now))) = g.verdicts ∙ ap (λ l. sets a.verdicts.now 0 (map bit l)) (sym o.1) in
+    record { result_value = is; verdicts_after = said; judges_all = judges-all a.b.now.types.bytes.now a.b.now.nodes.now a.b.now.left.now a.b.now.types.counts.now a.b.now.types.arities.now a.starts.now c.requires.sizes.low a.verdicts.now c.loop-k.verdicts c.from_residual.result is said }
 
 pub loop-k-preserved : goal.loop-k-preserved
 loop-k-preserved c =
     let a = c.args in
-    (omega (arith, c.loop-k-test.true), c.clause-r.auto.s ∙ c.loop-k.invariant.1, before-next a.bytes.now a.counts.now a.arities.now a.nodes.now a.starts.now c.loop-k.k c.loop-k.calls a.verdicts.now c.loop-k.verdicts c.loop-k.invariant.2 c.in-Done.yes c.in-Done.c c.bit_of.result _ (sym (ap said_verdict c.in-Done.is) ∙ c.clause-r.ensures) c.bit_of.ensures refl)
+    (c.clause.auto.s ∙ c.loop-k.invariant.0, before-next a.b.now.types.bytes.now a.b.now.types.counts.now a.b.now.types.arities.now a.b.now.nodes.now a.starts.now c.loop-k.k c.loop-k.calls a.verdicts.now c.loop-k.verdicts c.loop-k.invariant.1 c.in_ok-v.v.yes c.in_ok-v.v.calls c.bit_of.result _ (sym (ap said_verdict c.in_ok-v.was) ∙ c.clause.ensures) c.bit_of.ensures refl)
 
 pub returns : goal.returns
 returns c =
     let a = c.args in
-    let e : c.loop-k.k ≡ length a.starts.now = omega (arith, c.loop-k-test.false, c.loop-k.invariant.0) in
-    let w = before-within a.bytes.now a.counts.now a.arities.now a.nodes.now a.starts.now c.loop-k.k c.loop-k.calls a.verdicts.now c.loop-k.verdicts c.loop-k.invariant.2 in
-    let f = judged_to a.bytes.now a.counts.now a.arities.now a.nodes.now a.starts.now in
-    let is : ok c.loop-k.calls ≡ answered (judged_to a.bytes.now a.counts.now a.arities.now a.nodes.now a.starts.now (length a.starts.now)) = ap ok c.loop-k.invariant.2.called ∙ done_at f (rising a.bytes.now a.counts.now a.arities.now a.nodes.now a.starts.now) c.loop-k.k w ∙ ap (λ (i : ℕ). answered (f i)) e in
-    let said : c.loop-k.verdicts ≡ sets a.verdicts.now 0 (map bit (written (judged_to a.bytes.now a.counts.now a.arities.now a.nodes.now a.starts.now) (length a.starts.now))) = c.loop-k.invariant.2.verdicts ∙ ap (λ l. sets a.verdicts.now 0 (map bit l)) (sym (written-whole f c.loop-k.k (none_yet a.bytes.now a.counts.now a.arities.now a.nodes.now a.starts.now c.loop-k.k) w) ∙ ap (written f) e) in
-    record { result_value = is; verdicts_after = said; judges_all = judges-all a.bytes.now a.nodes.now a.left.now a.counts.now a.arities.now a.starts.now c.requires.sizes.low a.verdicts.now c.loop-k.verdicts (Done c.loop-k.calls) is said }
+    let f = judged_to a.b.now.types.bytes.now a.b.now.types.counts.now a.b.now.types.arities.now a.b.now.nodes.now a.starts.now in
+    let g = c.loop-k.invariant.1 in
+    let e : c.loop-k.k ≡ length a.starts.now = omega arith in
+    let w = before-within a.b.now.types.bytes.now a.b.now.types.counts.now a.b.now.types.arities.now a.b.now.nodes.now a.starts.now c.loop-k.k c.loop-k.calls a.verdicts.now c.loop-k.verdicts g in
+    let is : ok c.loop-k.calls ≡ answered (f (length a.starts.now)) = ap ok g.called ∙ done_at f (rising a.b.now.types.bytes.now a.b.now.types.counts.now a.b.now.types.arities.now a.b.now.nodes.now a.starts.now) c.loop-k.k w ∙ ap (λ (i : ℕ). answered (f i)) e in
+    let said : c.loop-k.verdicts ≡ sets a.verdicts.now 0 (map bit (written f (length a.starts.now))) = g.verdicts ∙ ap (λ l. sets a.verdicts.now 0 (map bit l)) (sym (written-whole f c.loop-k.k (none_yet a.b.now.types.bytes.now a.b.now.types.counts.now a.b.now.types.arities.now a.b.now.nodes.now a.starts.now c.loop-k.k) w) ∙ ap (written f) e) in
+    record { result_value = is; verdicts_after = said; judges_all = judges-all a.b.now.types.bytes.now a.b.now.nodes.now a.b.now.left.now a.b.now.types.counts.now a.b.now.types.arities.now a.starts.now c.requires.sizes.low a.verdicts.now c.loop-k.verdicts (Ok c.loop-k.calls) is said }

@@ -1,24 +1,17 @@
 -- `looks::is_nil` meets its contract.
-use mathlib.Core.Path.{◌≡◌, sym, subst, ◌∙◌}
-use mathlib.Core.Bool.{false}
-use Prim.Native.Nat.{ℕ, ◌-◌, ◌%◌}
-use lib.ListN.{get_or}
+use mathlib.Core.Path.{sym, ap, ◌∙◌}
+use mathlib.Core.Bool.{true, false}
+use Prim.Native.Nat.{ℕ}
 use lib.Dec.{eqb}
-use Rattle.looks.specs.Nodes.{nil_node}
-use Rattle.looks.proofs.Nodes.{nil-zero, nil-kind, nil-number}
+use borrow.Author.Tests.{eqb-true, eqb-false}
+use Rattle.looks.proofs.Nodes.{of-kind, nil-zero, nil-by}
 use Rattle.looks.proofs.is_nil.Goals as goal
 
-pub returns-then-node-eq0 : goal.returns-then-node-eq0
-returns-then-node-eq0 c =
-    let a = c.args in
-    nil-zero a.kinds.now (get_or a.nodes.now a.p 0) (sym c.at16-node.ensures ∙ c.if-node-eq0.true)
+pub returns-then-is_wild : goal.returns-then-is_wild
+returns-then-is_wild c = nil-zero c.args.types.now.kinds.now c.args.node (eqb-true c.args.node 0 (sym c.if-is_wild.ensures))
 
-pub returns-then-at8-ne3 : goal.returns-then-at8-ne3
-returns-then-at8-ne3 c =
-    let a = c.args in
-    subst (λ (n : ℕ). false ≡ nil_node a.kinds.now n) (c.wide16-i.ensures ∙ c.at16-node.ensures) (nil-kind a.kinds.now c.wide16-i.result (λ e. c.if-node-eq0.false (sym c.wide16-i.ensures ∙ e)) (λ e. c.if-at8-ne3.true (c.at8.ensures ∙ e)))
+pub returns-then-eq : goal.returns-then-eq
+returns-then-eq c = nil-by c.args.types.now.kinds.now true c.from-i.ensures (λ e. eqb-false c.args.node 0 (sym c.if-is_wild.ensures) (sym c.from-i.ensures ∙ e)) (c.if-eq.ensures ∙ of-kind _ _ _ _ c.try_from.ensures ∙ ap (λ (k : ℕ). eqb k 3) c.kind.ensures)
 
-pub returns : goal.returns
-returns c =
-    let a = c.args in
-    subst (λ (n : ℕ). eqb ((c.wide16-i.result - 1) % 32) 1 ≡ nil_node a.kinds.now n) (c.wide16-i.ensures ∙ c.at16-node.ensures) (nil-number a.kinds.now c.wide16-i.result (λ e. c.if-node-eq0.false (sym c.wide16-i.ensures ∙ e)) (sym c.at8.ensures ∙ c.if-at8-ne3.false))
+pub returns-else-eq : goal.returns-else-eq
+returns-else-eq c = c.if-eq.false ∙ nil-by c.args.types.now.kinds.now false c.from-i.ensures (λ e. eqb-false c.args.node 0 (sym c.if-is_wild.ensures) (sym c.from-i.ensures ∙ e)) (c.if-eq.ensures ∙ of-kind _ _ _ _ c.try_from.ensures ∙ ap (λ (k : ℕ). eqb k 3) c.kind.ensures)

@@ -11,5 +11,6 @@ use Rattle.looks.proofs.look.Goals as goal
 pub returns : goal.returns
 returns c =
     let a = c.args in
+    let t = a.types.now in
     let name = c.ctor_name-name.result.now in
-    c.look_in.ensures ∙ ap look_of (ap (λ (k : ℕ). cond a.paste (look_by_kind k (a.i % 32)) (look_by_name name)) c.at8.ensures ∙ look_is a.bytes.now (get_or a.kinds.now (a.i / 32) 0) (a.i % 32) (get_or a.names.now a.i 0) a.paste name c.ctor_name-name.ensures.result_value)
+    c.look_in.ensures ∙ ap look_of (ap (λ (k : ℕ). cond a.paste (look_by_kind k (a.i % 32)) (look_by_name name)) c.kind.ensures ∙ look_is t.bytes.now (get_or t.kinds.now (a.i / 32) 0) (a.i % 32) (get_or t.names.now a.i 0) a.paste name c.ctor_name-name.ensures.result_value)

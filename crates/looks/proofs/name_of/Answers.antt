@@ -1,31 +1,27 @@
 -- `looks::name_of` meets its contract: a part of the fixed names, or the name among the bytes.
 use mathlib.Core.Path.{ap, ◌∙◌}
-use native.Mathlib.Omega.{arith}
-use lib.ListN.{length, take, drop}
+use lib.ListN.{take, drop}
 use Rattle.scope.specs.Lists.{Text}
-use Rattle.naming.proofs.Naming.{name-cons, name-nil, name-tuple, name-declared, both_ways}
+use Rattle.naming.proofs.Naming.{name-cons, name-nil, name-tuple, name-declared}
+use Rattle.looks.proofs.Nodes.{is_kind, no_kind}
 use Rattle.looks.proofs.name_of.Goals as goal
 
-pub returns-then-c-eq0 : goal.returns-then-c-eq0
-returns-then-c-eq0 c =
+pub returns-then-c-eq0-clause-result_value : goal.returns-then-c-eq0-clause-result_value
+returns-then-c-eq0-clause-result_value c =
     let a = c.args in
-    let both = both_ways a.bytes.now a.kind a.c a.place (ap (take 2) c.requires ∙ name-cons a.bytes.now a.kind a.c a.place c.if-kind-eq3.true c.if-c-eq0.true) (omega (arith, ap (λ (x : Text). length (take 2 x)) c.requires)) in
-    record { result_value = both.0; result_value_2 = both.1.0; result_len_bound = both.1.1 }
+    ap (take 2) c.requires ∙ name-cons a.bytes.now a.kind a.c a.place (is_kind _ _ _ _ c.try_from-kind.ensures c.if-eq.ensures) c.if-c-eq0.true
 
-pub returns-then-kind-eq3 : goal.returns-then-kind-eq3
-returns-then-kind-eq3 c =
+pub returns-else-c-eq0-clause-result_value : goal.returns-else-c-eq0-clause-result_value
+returns-else-c-eq0-clause-result_value c =
     let a = c.args in
-    let both = both_ways a.bytes.now a.kind a.c a.place (ap (λ (x : Text). take 2 (drop 2 x)) c.requires ∙ name-nil a.bytes.now a.kind a.c a.place c.if-kind-eq3.true c.if-c-eq0.false) (omega (arith, ap (λ (x : Text). length (take 2 (drop 2 x))) c.requires)) in
-    record { result_value = both.0; result_value_2 = both.1.0; result_len_bound = both.1.1 }
+    ap (λ (x : Text). take 2 (drop 2 x)) c.requires ∙ name-nil a.bytes.now a.kind a.c a.place (is_kind _ _ _ _ c.try_from-kind.ensures c.if-eq.ensures) c.if-c-eq0.false
 
-pub returns-then-kind-ne6 : goal.returns-then-kind-ne6
-returns-then-kind-ne6 c =
+pub returns-then-eq-2-clause-result_value : goal.returns-then-eq-2-clause-result_value
+returns-then-eq-2-clause-result_value c =
     let a = c.args in
-    let both = both_ways a.bytes.now a.kind a.c a.place (ap (λ (x : Text). take 7 (drop 4 x)) c.requires ∙ name-tuple a.bytes.now a.kind a.c a.place c.if-kind-eq3.false c.if-kind-ne6.true) (omega (arith, ap (λ (x : Text). length (take 7 (drop 4 x))) c.requires)) in
-    record { result_value = both.0; result_value_2 = both.1.0; result_len_bound = both.1.1 }
+    c.name_at.ensures.result_value ∙ name-declared a.bytes.now a.kind a.c a.place (is_kind _ _ _ _ c.try_from-kind.ensures c.if-eq-2.ensures)
 
-pub returns : goal.returns
-returns c =
+pub returns-clause-result_value : goal.returns-clause-result_value
+returns-clause-result_value c =
     let a = c.args in
-    let both = both_ways a.bytes.now a.kind a.c a.place (c.name_at.ensures.result_value ∙ name-declared a.bytes.now a.kind a.c a.place c.if-kind-ne6.false) c.name_at.ensures.result_len_bound in
-    record { result_value = both.0; result_value_2 = both.1.0; result_len_bound = both.1.1 }
+    ap (λ (x : Text). take 7 (drop 4 x)) c.requires ∙ name-tuple a.bytes.now a.kind a.c a.place (no_kind _ _ _ _ c.try_from-kind.ensures c.if-eq.ensures) (no_kind _ _ _ _ c.try_from-kind.ensures c.if-eq-2.ensures)

@@ -1,30 +1,17 @@
--- `matrix::same_literal` meets its contract: the first i bytes agree, so the rest decides.
-use Rattle.matrix.proofs.Literals.{agree_on, agree_fail, agree-end, lit-whole}
-use native.Mathlib.Omega.{arith}
-use native.Mathlib.Nat.{add-zero, sub-zero}
-use Prim.Native.Nat.{ℕ, ◌+◌}
-use mathlib.Core.Path.{sym, ap, ◌∙◌}
+-- `matrix::same_literal` meets its contract: all bytes agree, by the definition's own test.
+use Rattle.std.proofs.Common.{rules, tests, arith, ◌≡◌, ℕ, ◌+◌, get_or, ◌∙◌, refl, eqb}
+use native.Mathlib.Nat.{add-zero}
+use Rattle.std.specs.List.{list_all, range_with_len}
+use Rattle.std.proofs.lemmas.Iterator.{YieldsList-from_range}
+use Rattle.std.proofs.lemmas.Iterator.Search.{all_from_yields_List}
+use Rattle.matrix.proofs.Literals.{agree-all, lit-whole}
 use Rattle.matrix.proofs.same_literal.Goals as goal
-
-pub loop-i-init : goal.loop-i-init
-loop-i-init c =
-    let a = c.args in
-    (omega arith, simp (add-zero, sub-zero) (lit-whole a.bytes.now a.a a.b _ (ap (λ (k : ℕ). 2 + k) (c.wide8-n.ensures ∙ c.at8.ensures))))
-
-pub returns-then-at8 : goal.returns-then-at8
-returns-then-at8 c =
-    let a = c.args in
-    let p = c.loop-i in
-    sym (agree_fail a.bytes.now _ a.a a.b p.i c.loop-i-test.true (λ e. c.if-at8.true (c.at8-in-loop-i.ensures ∙ e ∙ sym c.at8-in-loop-i-2.ensures))) ∙ p.invariant.1
-
-pub loop-i-preserved : goal.loop-i-preserved
-loop-i-preserved c =
-    let a = c.args in
-    let p = c.loop-i in
-    (omega arith, sym (agree_on a.bytes.now _ a.a a.b p.i c.loop-i-test.true (sym c.at8-in-loop-i.ensures ∙ c.if-at8.false ∙ c.at8-in-loop-i-2.ensures)) ∙ p.invariant.1)
 
 pub returns : goal.returns
 returns c =
     let a = c.args in
-    let p = c.loop-i in
-    sym (agree-end a.bytes.now _ a.a a.b p.i c.loop-i-test.false) ∙ p.invariant.1
+    let bytes = a.bytes.now in
+    let n = 2 + get_or bytes (a.a + 1) 0 in
+    let test = λ (i : ℕ). eqb (get_or bytes (a.a + i) 0) (get_or bytes (a.b + i) 0) in
+    let e : c.all.result ≡ list_all test (range_with_len 0 n) = all_from_yields_List test _ _ c.all.result c.all.ensures.ran (YieldsList-from_range 0 n n (cc) (omega arith)) (λ x b q k. search (rules, tests)) in
+    e ∙ agree-all bytes a.a a.b 0 n ∙ simp add-zero (lit-whole bytes a.a a.b n refl)

@@ -1,32 +1,22 @@
--- `matrix::same_node` meets its contract: the same number, another one, two literals.
-use Rattle.matrix.proofs.Literals.{both-literals, node-same, node-other, node-lit}
+-- `matrix::same_node` meets its contract: two literals, or numbers of which one says no literal.
+use mathlib.Core.Path.{ap₂, ◌∙◌}
+use mathlib.Core.Logic.{inl, inr}
+use Rattle.heads.proofs.Nodes.{no_literal}
 use Rattle.matrix.specs.Numbers.{same_lit}
-use Prim.Native.Nat.{ℕ}
-use mathlib.Core.Path.{sym, ap₂, ◌∙◌}
+use Rattle.matrix.proofs.Literals.{node-number, node-places}
+use Rattle.matrix.proofs.same_node.Goals.{in_default-via-in-Literal+in_default, in_default-via-in_default}
 use Rattle.matrix.proofs.same_node.Goals as goal
 
-pub overflow_sub-h : goal.overflow_sub-h
-overflow_sub-h c =
+pub returns-in-Literal-Literal : goal.returns-in-Literal-Literal
+returns-in-Literal-Literal c =
     let a = c.args in
-    (both-literals a.h a.key (sym c.compare-c.ensures ∙ c.in-Literals.is)).0
+    let l = c.in-Literal-Literal in
+    c.same_literal.ensures ∙ ap₂ (same_lit a.bytes.now) c.from-in-Literal-Literal.ensures c.from-in-Literal-Literal-2.ensures ∙ node-places a.bytes.now a.h a.key l.a l.b l.ensures l.ensures'
 
-pub overflow_sub-key : goal.overflow_sub-key
-overflow_sub-key c =
+pub returns-in_default : goal.returns-in_default
+returns-in_default c =
     let a = c.args in
-    (both-literals a.h a.key (sym c.compare-c.ensures ∙ c.in-Literals.is)).1
-
-pub returns-in-Same : goal.returns-in-Same
-returns-in-Same c =
-    let a = c.args in
-    node-same a.bytes.now a.h a.key (sym c.compare-c.ensures ∙ c.in-Same.is)
-
-pub returns-in-Other : goal.returns-in-Other
-returns-in-Other c =
-    let a = c.args in
-    node-other a.bytes.now a.h a.key (sym c.compare-c.ensures ∙ c.in-Other.is)
-
-pub returns-in-Literals : goal.returns-in-Literals
-returns-in-Literals c =
-    let a = c.args in
-    let l = both-literals a.h a.key (sym c.compare-c.ensures ∙ c.in-Literals.is) in
-    c.same_literal.ensures ∙ ap₂ (λ (x y : ℕ). same_lit a.bytes.now x y) c.wide16.ensures c.wide16-in-Literals.ensures ∙ node-lit a.bytes.now a.h a.key l.0 l.1
+    node-number a.bytes.now a.h a.key (elim c.in_default.branch [
+      | in_default-via-in-Literal+in_default w ↦ inr (no_literal a.key c.from-2.result c.from-2.ensures w.in_default.not-Literal-1)
+      | in_default-via-in_default w ↦ inl (no_literal a.h c.from.result c.from.ensures w.in_default.not-Literal-0)
+    ])

@@ -7,29 +7,27 @@ use native.Mathlib.Omega.{arith}
 use Prim.Native.Nat.{ℕ, ◌+◌, ◌≤◌, ◌<◌}
 use mathlib.Core.Path.{◌≡◌, sym, ap, subst, ◌∙◌}
 use Rattle.matrix.proofs.specialize.Goals as goal
-use Rattle.matrix.proofs.specialize.Goals.{in-At, in_default}
+use Rattle.matrix.proofs.specialize.Goals.{in-Some, in_default}
 
 pub loop-i-init : goal.loop-i-init
 unfolding steps
-loop-i-init c =
-    (omega arith, (written_none c.args.s.now c.args.rows c.requires.rows_in_bounds, omega arith))
+loop-i-init c = (written_none c.args.s.now c.args.rows c.requires.rows_in_bounds, omega arith)
 
-pub onward-r-requires : goal.onward-r-requires
-onward-r-requires c =
+pub onward-requires : goal.onward-requires
+onward-requires c =
     let a = c.args in
     let p = c.loop-i in
-    let rd : get_or p.s p.i 0 ≡ get_or (take a.rows a.s.now) p.i 0 = written_read a.s.now a.rows c.requires.rows_in_bounds (steps a.bytes.now a.nodes.now a.left.now a.n a.key (take p.i (take a.rows a.s.now))) p.k p.s p.invariant.1.0 (omega arith) p.i c.loop-i-test.true in
+    let rd : get_or p.s p.i 0 ≡ get_or (take a.rows a.s.now) p.i 0 = written_read a.s.now a.rows c.requires.rows_in_bounds (steps a.b.now.types.bytes.now a.b.now.nodes.now a.b.now.left.now a.n a.key (take p.i (take a.rows a.s.now))) p.k p.s p.invariant.0 (omega arith) p.i c.loop-i-test.true in
     let lt : p.i < length (take a.rows a.s.now) = omega (arith, length-take-le a.rows a.s.now (omega arith)) in
-    subst (λ (x : ℕ). a.n ≤ get_or a.left.now x 0 → x + 1 < 65536) (sym rd) (c.requires.steady.next p.i lt)
+    subst (λ (x : ℕ). a.n ≤ get_or a.b.now.left.now x 0 → x + 1 < 65536) (sym rd) (c.requires.steady.next p.i lt)
 
 pub loop-i-preserved : goal.loop-i-preserved
 loop-i-preserved c =
     let a = c.args in
+    let b = a.b.now in
     let p = c.loop-i in
-    let ens = c.onward-r.ensures in (
-      omega arith,
-      elim c.match-r.branch [
-        | in-At w ↦ turn_at a.bytes.now a.nodes.now a.left.now a.n a.key a.s.now a.rows c.requires.rows_in_bounds p.i p.k p.s c.loop-i-test.true p.invariant.1.1 p.invariant.1.0 w.in-At.q c.match-r.k c.match-r.s (ap place_of (sym w.in-At.is) ∙ ens) w.s-is w.k-is
-        | in_default w ↦ turn-gone a.bytes.now a.nodes.now a.left.now a.n a.key a.s.now a.rows c.requires.rows_in_bounds p.i p.k p.s c.loop-i-test.true p.invariant.1.1 p.invariant.1.0 c.match-r.k c.match-r.s (ap place_of (sym w.in_default.is) ∙ ens) w.s-is w.k-is
-      ],
-    )
+    let ens = c.onward.ensures in
+    elim c.match-onward.branch [
+      | in-Some w ↦ turn_at b.types.bytes.now b.nodes.now b.left.now a.n a.key a.s.now a.rows c.requires.rows_in_bounds p.i p.k p.s c.loop-i-test.true p.invariant.1 p.invariant.0 w.in-Some.q c.match-onward.k c.match-onward.s (ap place_of (sym w.in-Some.is) ∙ ens) w.s-is w.k-is
+      | in_default w ↦ turn-gone b.types.bytes.now b.nodes.now b.left.now a.n a.key a.s.now a.rows c.requires.rows_in_bounds p.i p.k p.s c.loop-i-test.true p.invariant.1 p.invariant.0 c.match-onward.k c.match-onward.s (ap place_of (sym w.in_default.is) ∙ ens) w.s-is w.k-is
+    ]

@@ -1,86 +1,45 @@
--- `paths::choose` and `paths::put_rows` meet their contracts. The measure: 40 for each step that is still to be chosen.
-use Rattle.paths.proofs.PathChoose.{rows_fit, rows_on, rows-chosen, choose-none, choose-skip, choose_spelling, choose-over, choose-fit, choose-then, kept-cell}
+-- `paths::choose` and `paths::put_rows` meet their contracts: what is chosen, then what is still to come, is the whole.
+use Rattle.paths.proofs.PathChoose.{rows_fit, rows_on, rows-chosen, chosen-end, chosen-skip, chosen-stop, chosen-more}
 use native.Mathlib.Omega.{arith}
-use mathlib.Core.Path.{◌∙◌}
-use Prim.Native.Nat.{◌<◌}
+use lib.ListN.{set}
+use lib.Seq.{set-set}
+use Rattle.paths.specs.declared.Steps.{Steps}
+use mathlib.Core.Path.{refl, ap, ◌∙◌}
 use Rattle.paths.proofs.+choose_put_rows.Goals as goal
+use Rattle.paths.proofs.+choose_put_rows.Goals.{choose-then-rest-eq1+in_ok-at, choose-else-rest-eq1}
 
-pub choose-returns-then-more-eq0-clause-spread : goal.choose-returns-then-more-eq0-clause-spread
-choose-returns-then-more-eq0-clause-spread t c =
-    let a = c.args in
+pub choose-returns-in_err-at-clause-spread : goal.choose-returns-in_err-at-clause-spread
+choose-returns-in_err-at-clause-spread t c =
     let h = c.requires in
-    choose-none a.arities.now a.path.now a.alts.now a.depth a.k a.n a.written a.rows h.spelling a.rest a.b a.more h.k_lt_depth.0 h.k_lt_depth.1 c.if-more-eq0.true a.out.now
+    chosen-stop c.args.arities.now h.spelling h.k_lt_depth.0 h.k_lt_depth.1 c.loop-c.invariant c.loop-c-test.true refl (λ z. omega (arith, c.if-rest-eq1.true)) c.put_rows.ensures.spread c.in_err-at.was c.from_residual.ensures.0
 
-pub choose-returns-then-rest-eq0-clause-spread : goal.choose-returns-then-rest-eq0-clause-spread
-choose-returns-then-rest-eq0-clause-spread t c =
-    let a = c.args in
-    let h = c.requires in
-    let m : 0 < a.more = omega (arith, c.if-more-eq0.false) in
-    let q = c.choose in
-    choose-skip a.arities.now a.path.now a.alts.now a.depth a.k a.n a.written a.rows h.spelling a.rest a.b a.more h.k_lt_depth.0 h.k_lt_depth.1 m c.if-rest-eq0.true a.out.now q.result q.new.out q.ensures.spread
+pub choose-returns-in_err-at-clause-by_index : goal.choose-returns-in_err-at-clause-by_index
+choose-returns-in_err-at-clause-by_index t c =
+    let p = c.loop-c in
+    λ x. ap (λ (s : Steps). set s.nodes c.args.k x) c.put_rows.ensures.path_unchanged ∙ set-set p.steps.nodes c.args.k _ x ∙ p.invariant.kept x
 
-pub choose-choose-requires-in-Done : goal.choose-choose-requires-in-Done
-choose-choose-requires-in-Done t c =
-    let a = c.args in
+pub choose-loop-c-preserved : goal.choose-loop-c-preserved
+choose-loop-c-preserved t c =
     let h = c.requires in
-    let m : 0 < a.more = omega (arith, c.if-more-eq0.false) in
-    let p = c.put_rows-r in
-    let w = c.in-Done.w in
-    let v = c.in-Done.m in
-    let f = choose-fit a.arities.now a.path.now a.alts.now a.depth a.k a.n a.written a.rows h.spelling a.rest a.b a.more h.k_lt_depth.0 h.k_lt_depth.1 m c.if-rest-eq0.false a.out.now p.result p.new.out p.ensures.spread w v c.in-Done.is in
-    (omega (arith, c.decreases), (choose_spelling a.arities.now a.path.now a.alts.now a.depth a.k a.n a.written a.rows h.spelling a.rest a.b a.more h.k_lt_depth.0 h.k_lt_depth.1 w v f.0 f.1 p.new.path p.ensures.path_unchanged, (h.k_lt_depth.0, h.k_lt_depth.1, omega (arith, h.k_lt_depth.2), omega (arith, h.k_lt_depth.3))))
+    let p = c.loop-c in
+    elim c.if-rest-eq1.branch [
+      | choose-then-rest-eq1+in_ok-at w ↦ rw (w.steps-is, w.out-is, w.at-is) (chosen-more c.args.arities.now h.spelling h.k_lt_depth.0 h.k_lt_depth.1 p.invariant c.loop-c-test.true refl (λ z. omega (arith, w.if-rest-eq1.true)) w.put_rows.ensures.spread w.in_ok-at.was (ap (λ (s : Steps). s.nodes) w.put_rows.ensures.path_unchanged) (ap (λ (s : Steps). s.sets) w.put_rows.ensures.path_unchanged))
+      | choose-else-rest-eq1 w ↦ rw (w.steps-is, w.out-is, w.at-is) (chosen-skip c.args.arities.now h.spelling h.k_lt_depth.0 h.k_lt_depth.1 p.invariant c.loop-c-test.true (omega (arith, w.if-rest-eq1.false)))
+    ]
 
-pub choose-returns-in-Over-clause-spread : goal.choose-returns-in-Over-clause-spread
-choose-returns-in-Over-clause-spread t c =
-    let a = c.args in
+pub choose-returns-clause-spread : goal.choose-returns-clause-spread
+choose-returns-clause-spread t c =
     let h = c.requires in
-    let m : 0 < a.more = omega (arith, c.if-more-eq0.false) in
-    let p = c.put_rows-r in
-    choose-over a.arities.now a.path.now a.alts.now a.depth a.k a.n a.written a.rows h.spelling a.rest a.b a.more h.k_lt_depth.0 h.k_lt_depth.1 m c.if-rest-eq0.false a.out.now p.result p.new.out p.ensures.spread c.in-Over.is
-
-pub choose-returns-in-Over-clause-by_index : goal.choose-returns-in-Over-clause-by_index
-choose-returns-in-Over-clause-by_index t c =
-    let a = c.args in
-    let h = c.requires in
-    let m : 0 < a.more = omega (arith, c.if-more-eq0.false) in
-    let p = c.put_rows-r in
-    kept-cell a.path.now a.k a.b p.new.path p.ensures.path_unchanged
-
-pub choose-returns-in-Done-clause-spread : goal.choose-returns-in-Done-clause-spread
-choose-returns-in-Done-clause-spread t c =
-    let a = c.args in
-    let h = c.requires in
-    let m : 0 < a.more = omega (arith, c.if-more-eq0.false) in
-    let p = c.put_rows-r in
-    let q = c.choose-in-Done in
-    choose-then a.arities.now a.path.now a.alts.now a.depth a.k a.n a.written a.rows h.spelling a.rest a.b a.more h.k_lt_depth.0 h.k_lt_depth.1 m c.if-rest-eq0.false a.out.now p.result p.new.out p.ensures.spread c.in-Done.w c.in-Done.m c.in-Done.is p.new.path p.ensures.path_unchanged q.result q.new.out q.ensures.spread
-
-pub choose-returns-in-Done-clause-by_index : goal.choose-returns-in-Done-clause-by_index
-choose-returns-in-Done-clause-by_index t c =
-    let a = c.args in
-    let h = c.requires in
-    let m : 0 < a.more = omega (arith, c.if-more-eq0.false) in
-    let p = c.put_rows-r in
-    let q = c.choose-in-Done in
-    λ x. q.ensures.by_index x ∙ kept-cell a.path.now a.k a.b p.new.path p.ensures.path_unchanged x
+    chosen-end c.args.arities.now h.spelling h.k_lt_depth.0 h.k_lt_depth.1 c.loop-c.invariant c.loop-c-test.false
 
 pub put_rows-returns-then-k-eq0-clause-spread : goal.put_rows-returns-then-k-eq0-clause-spread
 put_rows-returns-then-k-eq0-clause-spread t c =
-    let a = c.args in
-    let h = c.requires in
-    let p = c.put_row-at in
-    rows_fit a.arities.now a.path.now a.alts.now a.depth a.k a.n a.written a.rows h c.if-k-eq0.true a.out.now p.result p.new.out p.ensures c.fit.result c.fit.ensures
+    rows_fit c.args.arities.now c.requires c.if-k-eq0.true c.put_row-end.ensures c.fit.ensures
 
-pub put_rows-returns-then-rest-eq0-clause-spread : goal.put_rows-returns-then-rest-eq0-clause-spread
-put_rows-returns-then-rest-eq0-clause-spread t c =
-    let a = c.args in
-    let h = c.requires in
-    let q = c.put_rows in
-    rows_on a.arities.now a.path.now a.alts.now a.depth a.k a.n a.written a.rows h (omega (arith, c.if-k-eq0.false)) a.out.now q.result q.new.out c.if-rest-eq0.true q.ensures.spread
+pub put_rows-returns-then-steps-j-eq0-clause-spread : goal.put_rows-returns-then-steps-j-eq0-clause-spread
+put_rows-returns-then-steps-j-eq0-clause-spread t c =
+    rows_on c.args.arities.now c.requires (omega (arith, c.if-k-eq0.false)) c.if-steps-j-eq0.true c.put_rows.ensures.spread
 
 pub put_rows-returns-clause-spread : goal.put_rows-returns-clause-spread
 put_rows-returns-clause-spread t c =
-    let a = c.args in
-    let h = c.requires in
-    let q = c.choose-r in
-    rows-chosen a.arities.now a.path.now a.alts.now a.depth a.k a.n a.written a.rows h (omega (arith, c.if-k-eq0.false)) a.out.now q.result q.new.out c.if-rest-eq0.false q.ensures.spread
+    rows-chosen c.args.arities.now c.requires (omega (arith, c.if-k-eq0.false)) c.if-steps-j-eq0.false c.choose-r.ensures.spread

@@ -1,9 +1,13 @@
--- `paths::choose` and `paths::put_rows` meet their contracts. The measure: 40 for each step that is still to be chosen.
+-- `paths::choose` and `paths::put_rows` meet their contracts. The measure: twice the steps that are still to be chosen.
 use Prim.Native.Nat.{◌+◌, ◌*◌}
+use Rattle.paths.proofs.PathChoose.{Chosen}
 use Rattle.paths.proofs.+choose_put_rows.Given as goal
 
 abbrev pub decreases-choose : goal.decreases-choose
-decreases-choose l = 40 * l.k + l.more + 1
+decreases-choose l = 2 * l.k + 1
 
 abbrev pub decreases-put_rows : goal.decreases-put_rows
-decreases-put_rows l = 40 * l.k
+decreases-put_rows l = 2 * l.k
+
+abbrev pub invariant-choose-loop-c : goal.invariant-choose-loop-c
+invariant-choose-loop-c l = Chosen l.arities l.initial.steps.nodes l.initial.steps.sets l.depth l.k l.n l.initial.at.written l.initial.at.rows l.initial.out l.steps.nodes l.steps.sets l.rest l.b l.c l.at l.out

@@ -6,27 +6,27 @@ use native.Mathlib.Omega.{arith}
 use mathlib.Core.Path.{◌∙◌}
 use Rattle.paths.proofs.put_row.Goals as goal
 
-pub put_step-next-requires : goal.put_step-next-requires
-put_step-next-requires c =
+pub put_step-at-requires : goal.put_step-at-requires
+put_step-at-requires c =
     let a = c.args in
-    omega (arith, c.requires, c.loop-i.invariant.2, spelt-most a.arities.now a.path.now a.alts.now a.n (arity-byte a.arities.now (λ i. omega (arith, c.type_inv.arities i))) a.depth 0)
+    omega (arith, c.requires, c.loop-i.invariant.1, spelt-most a.arities.now a.steps.now.nodes a.steps.now.sets a.n (arity-byte a.arities.now (λ i. omega (arith, c.type_inv.arities i))) a.depth 0)
 
 pub loop-i-preserved : goal.loop-i-preserved
 loop-i-preserved c =
     let a = c.args in
     let p = c.loop-i in
-    let w = c.put_step-next in
-    let n = row_next a.arities.now a.path.now a.alts.now a.depth a.n p.out p.at p.i c.loop-i-test.true w.result w.new.out w.ensures in
-    (omega (arith, c.loop-i-test.true), n.0 ∙ p.invariant.1, n.1 ∙ p.invariant.2)
+    let w = c.put_step-at in
+    let n = row_next a.arities.now a.steps.now.nodes a.steps.now.sets a.depth a.n p.out p.at p.i c.loop-i-test.true w.result w.new.out w.ensures in
+    (n.0 ∙ p.invariant.0, n.1 ∙ p.invariant.1)
 
 pub put_wilds-requires : goal.put_wilds-requires
 put_wilds-requires c =
     let a = c.args in
-    omega (arith, c.requires, c.loop-i.invariant.2, spelt-most a.arities.now a.path.now a.alts.now a.n (arity-byte a.arities.now (λ i. omega (arith, c.type_inv.arities i))) a.depth 0)
+    omega (arith, c.requires, c.loop-i.invariant.1, spelt-most a.arities.now a.steps.now.nodes a.steps.now.sets a.n (arity-byte a.arities.now (λ i. omega (arith, c.type_inv.arities i))) a.depth 0)
 
 pub returns : goal.returns
 returns c =
     let a = c.args in
     let p = c.loop-i in
     let w = c.put_wilds in
-    row-end a.arities.now a.path.now a.alts.now a.depth a.n p.out p.at p.i c.loop-i-test.false a.out.now _ a.written p.invariant.1 p.invariant.2 w.result w.new.out w.ensures
+    row-end a.arities.now a.steps.now.nodes a.steps.now.sets a.depth a.n p.out p.at p.i c.loop-i-test.false a.out.now _ a.written p.invariant.0 p.invariant.1 w.result w.new.out w.ensures

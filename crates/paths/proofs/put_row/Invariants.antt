@@ -2,13 +2,10 @@
 use Rattle.paths.specs.Path.{spelt}
 use lib.ListN.{length}
 use lib.Seq.{sets}
-use Prim.Native.Nat.{◌+◌, ◌-◌, ◌≤◌}
+use Prim.Native.Nat.{◌+◌, ◌-◌}
 use mathlib.Core.Path.{◌≡◌}
 use Rattle.paths.proofs.put_row.Given as goal
 
 abbrev pub invariant-loop-i : goal.invariant-loop-i
-invariant-loop-i l = (l.i ≤ l.depth) × (sets l.out l.at (spelt l.arities l.path l.alts l.i (l.depth - l.i) l.n) ≡ sets l.initial.out l.written (spelt l.arities l.path l.alts 0 l.depth l.n))
-    × (l.at + length (spelt l.arities l.path l.alts l.i (l.depth - l.i) l.n) ≡ l.written + length (spelt l.arities l.path l.alts 0 l.depth l.n))
-
-abbrev pub decreases-loop-i : goal.decreases-loop-i
-decreases-loop-i l = l.depth - l.i
+invariant-loop-i l = (sets l.out l.at (spelt l.arities l.steps.nodes l.steps.sets l.i (l.depth - l.i) l.n) ≡ sets l.initial.out l.written (spelt l.arities l.steps.nodes l.steps.sets 0 l.depth l.n))
+    × (l.at + length (spelt l.arities l.steps.nodes l.steps.sets l.i (l.depth - l.i) l.n) ≡ l.written + length (spelt l.arities l.steps.nodes l.steps.sets 0 l.depth l.n))

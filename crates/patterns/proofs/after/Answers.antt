@@ -5,4 +5,4 @@ use Rattle.patterns.proofs.after.Goals as goal
 
 pub returns : goal.returns
 returns c =
-    size-at c.args.bytes.now c.args.at c.at8.result c.wide8.result c.size.result c.at8.ensures (c.wide8.ensures ∙ c.at8-2.ensures) c.size.ensures.0
+    size-at c.args.bytes.now c.args.at c.get.result c.from.result c.size.result c.get.ensures (c.from.ensures ∙ c.get-2.ensures) c.size.ensures.0

@@ -1,40 +1,31 @@
 -- `rules::suits_kind` meets its contract: each kind of pattern.
-use native.Mathlib.Omega.{arith}
-use Rattle.rules.proofs.Decisions.{kind-any, kind-integer, kind-bytes, kind-list, kind_data, kind-pair, kind-tuple}
+use mathlib.Core.Path.{refl}
+use Rattle.rules.specs.Kinds.{suits_kind}
+use Rattle.rules.proofs.Decisions.{wanting, other}
 use Rattle.rules.proofs.suits_kind.Goals as goal
+use Rattle.rules.proofs.suits_kind.Goals.{in-Ok-Integer, in-Ok-ByteString, in-Ok-List, in-Ok-Constructor, in-Ok-Pair, in-Ok-Tuple, in-Err}
 
-pub returns-in-0 : goal.returns-in-0
-returns-in-0 c =
-    kind-any c.args.what c.args.kind (omega (arith, c.in-0.is))
+pub returns-in-Ok-Discard : goal.returns-in-Ok-Discard
+unfolding suits_kind
+returns-in-Ok-Discard c = rw (c.in-Ok-Discard.ensures, c.in-Ok-Discard.field-0-is)
 
-pub returns-in-1 : goal.returns-in-1
-returns-in-1 c =
-    kind-any c.args.what c.args.kind (omega (arith, c.in-1.is))
+pub returns-in-Ok-Variable : goal.returns-in-Ok-Variable
+unfolding suits_kind
+returns-in-Ok-Variable c = rw (c.in-Ok-Variable.ensures, c.in-Ok-Variable.field-0-is)
 
-pub returns-in-2 : goal.returns-in-2
-returns-in-2 c =
-    kind-any c.args.what c.args.kind (omega (arith, c.in-2.is))
+pub returns-in-Ok-Assign : goal.returns-in-Ok-Assign
+unfolding suits_kind
+returns-in-Ok-Assign c = rw (c.in-Ok-Assign.ensures, c.in-Ok-Assign.field-0-is)
 
-pub returns-in-3 : goal.returns-in-3
-returns-in-3 c =
-    kind-integer c.args.what c.args.kind c.in-3.is
-
-pub returns-in-4 : goal.returns-in-4
-returns-in-4 c =
-    kind-bytes c.args.what c.args.kind c.in-4.is
-
-pub returns-in-5 : goal.returns-in-5
-returns-in-5 c =
-    kind-list c.args.what c.args.kind c.in-5.is
-
-pub returns-in-6 : goal.returns-in-6
-returns-in-6 c =
-    kind_data c.args.what c.args.kind c.in-6.is
-
-pub returns-in-7 : goal.returns-in-7
-returns-in-7 c =
-    kind-pair c.args.what c.args.kind c.in-7.is
-
-pub returns-in_default : goal.returns-in_default
-returns-in_default c =
-    kind-tuple c.args.what c.args.kind (omega arith) (omega arith) (omega arith) (omega arith) (omega arith) (omega arith) (omega arith) (omega arith)
+pub returns : goal.returns
+unfolding suits_kind
+returns c =
+    elim c.match-try_from.branch [
+      | in-Ok-Integer w ↦ wanting _ c.args.what c.args.kind c.try_from-2.result c.try_from-2.ensures c.match-try_from.wanted _ w.wanted-is c.eq.result c.eq.ensures w.in-Ok-Integer.field-0 _ w.in-Ok-Integer.ensures w.in-Ok-Integer.field-0-is refl
+      | in-Ok-ByteString w ↦ wanting _ c.args.what c.args.kind c.try_from-2.result c.try_from-2.ensures c.match-try_from.wanted _ w.wanted-is c.eq.result c.eq.ensures w.in-Ok-ByteString.field-0 _ w.in-Ok-ByteString.ensures w.in-Ok-ByteString.field-0-is refl
+      | in-Ok-List w ↦ wanting _ c.args.what c.args.kind c.try_from-2.result c.try_from-2.ensures c.match-try_from.wanted _ w.wanted-is c.eq.result c.eq.ensures w.in-Ok-List.field-0 _ w.in-Ok-List.ensures w.in-Ok-List.field-0-is refl
+      | in-Ok-Constructor w ↦ wanting _ c.args.what c.args.kind c.try_from-2.result c.try_from-2.ensures c.match-try_from.wanted _ w.wanted-is c.eq.result c.eq.ensures w.in-Ok-Constructor.field-0 _ w.in-Ok-Constructor.ensures w.in-Ok-Constructor.field-0-is refl
+      | in-Ok-Pair w ↦ wanting _ c.args.what c.args.kind c.try_from-2.result c.try_from-2.ensures c.match-try_from.wanted _ w.wanted-is c.eq.result c.eq.ensures w.in-Ok-Pair.field-0 _ w.in-Ok-Pair.ensures w.in-Ok-Pair.field-0-is refl
+      | in-Ok-Tuple w ↦ wanting _ c.args.what c.args.kind c.try_from-2.result c.try_from-2.ensures c.match-try_from.wanted _ w.wanted-is c.eq.result c.eq.ensures w.in-Ok-Tuple.field-0 _ w.in-Ok-Tuple.ensures w.in-Ok-Tuple.field-0-is refl
+      | in-Err w ↦ other _ c.args.what c.args.kind c.try_from-2.result c.try_from-2.ensures c.match-try_from.wanted _ w.wanted-is c.eq.result c.eq.ensures w.in-Err.ensures refl
+    ]

@@ -1,11 +1,7 @@
--- `sound::all_finite` meets its contract: after n rounds the flags are what n rounds know.
+-- `sound::all_finite` meets its contract: after so many rounds the flags are what so many rounds know.
 use mathlib.Core.Path.{◌≡◌}
-use Prim.Native.Nat.{◌-◌, ◌≤◌}
 use Rattle.sound.specs.Sound.{flags, known_in}
 use Rattle.sound.proofs.all_finite.Given as goal
 
-abbrev pub invariant-loop-n : goal.invariant-loop-n
-invariant-loop-n l = (l.n ≤ l.types) × (l.known ≡ flags (known_in l.kinds l.counts l.arities l.starts l.fields l.types l.n))
-
-abbrev pub decreases-loop-n : goal.decreases-loop-n
-decreases-loop-n l = l.types - l.n
+abbrev pub invariant-loop : goal.invariant-loop
+invariant-loop l = l.known ≡ flags (known_in l.types.kinds.now l.types.counts.now l.types.arities.now l.types.starts.now l.types.fields.now l.n l.counter)

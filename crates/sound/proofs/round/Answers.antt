@@ -2,7 +2,6 @@
 use mathlib.Core.Path.{refl, ◌∙◌}
 use Prim.Native.Nat.{◌+◌}
 use native.Mathlib.Omega.{arith}
-use lib.ListN.{length-set}
 use Rattle.sound.specs.Sound.{value_in}
 use Rattle.layout.proofs.Loops.{places-next, places-end, run_step, run_end}
 use Rattle.sound.proofs.round.Goals as goal
@@ -11,10 +10,10 @@ pub loop-t-preserved : goal.loop-t-preserved
 loop-t-preserved c =
     let a = c.args in
     let l = c.loop-t in
-    (omega arith, length-set l.next l.t c.has_value.result ∙ l.invariant.1, run_step (value_in a.kinds.now a.counts.now a.arities.now a.starts.now a.fields.now a.known) l.next _ l.t (l.t + 1) _ _ _ _ (omega arith) (places-next l.t a.types (omega arith)) c.has_value.ensures refl ∙ l.invariant.2)
+    run_step (value_in a.types.now.kinds.now a.types.now.counts.now a.types.now.arities.now a.types.now.starts.now a.types.now.fields.now a.known.now) l.next _ l.t (l.t + 1) _ _ _ _ (omega arith) (places-next l.t a.n (omega arith)) c.has_value.ensures refl ∙ l.invariant
 
 pub returns : goal.returns
 returns c =
     let a = c.args in
     let l = c.loop-t in
-    run_end (value_in a.kinds.now a.counts.now a.arities.now a.starts.now a.fields.now a.known) l.next l.t _ (places-end l.t l.t a.types (omega arith)) ∙ l.invariant.2
+    run_end (value_in a.types.now.kinds.now a.types.now.counts.now a.types.now.arities.now a.types.now.starts.now a.types.now.fields.now a.known.now) l.next l.t _ (places-end l.t l.t a.n (omega arith)) ∙ l.invariant

@@ -1,40 +1,81 @@
 -- `suits::suits` meets its contract: the kind of the type, then each kind of pattern.
-use native.Mathlib.Omega.{arith}
-use Rattle.suits.specs.declared.Suit.TheVariants.{Leaf, Again}
-use Rattle.suits.proofs.Small.{is-wild, is-assign, is-literal, is_unfit, is-fit}
+use mathlib.Core.Path.{refl}
+use Rattle.suits.specs.Suits.{form_of}
+use Rattle.suits.proofs.Small.{is_unfit, is-kind, is-other}
 use Rattle.suits.proofs.suits.Goals as goal
 
-pub returns-then-not-suits_kind : goal.returns-then-not-suits_kind
-returns-then-not-suits_kind c =
+pub returns-then-not-suits_kind-clause-suits : goal.returns-then-not-suits_kind-clause-suits
+returns-then-not-suits_kind-clause-suits c =
     let a = c.args in
-    is_unfit a.bytes.now a.kinds.now a.counts.now a.arities.now a.at a.t c.at8-what.result c.at8.result c.suits_kind.result c.at8-what.ensures c.at8.ensures c.suits_kind.ensures c.if-not-suits_kind.true
+    let b = a.types.now in
+    is_unfit b.bytes.now b.kinds.now b.counts.now b.arities.now a.at a.t c.get-what.result c.kind.result c.suits_kind.result c.get-what.ensures c.kind.ensures c.suits_kind.ensures c.if-not-suits_kind.true
 
-pub returns-in-0 : goal.returns-in-0
-returns-in-0 c =
+pub returns-in-Ok-Discard-clause-suits : goal.returns-in-Ok-Discard-clause-suits
+unfolding form_of
+returns-in-Ok-Discard-clause-suits c =
     let a = c.args in
-    is-fit a.bytes.now a.kinds.now a.counts.now a.arities.now a.at a.t c.at8-what.result c.at8.result c.suits_kind.result c.at8-what.ensures c.at8.ensures c.suits_kind.ensures (Leaf 0) c.if-not-suits_kind.false (is-wild a.bytes.now a.counts.now a.arities.now a.at a.t c.at8-what.result (omega (arith, c.in-0.is)))
+    let b = a.types.now in
+    is-kind b.bytes.now b.kinds.now b.counts.now b.arities.now a.at a.t c.get-what.result c.kind.result c.suits_kind.result c.get-what.ensures c.kind.ensures c.suits_kind.ensures _ c.in-Ok-Discard.field-0 _ c.if-not-suits_kind.false c.in-Ok-Discard.ensures c.in-Ok-Discard.field-0-is refl
 
-pub returns-in-1 : goal.returns-in-1
-returns-in-1 c =
+pub returns-in-Ok-Variable-clause-suits : goal.returns-in-Ok-Variable-clause-suits
+unfolding form_of
+returns-in-Ok-Variable-clause-suits c =
     let a = c.args in
-    is-fit a.bytes.now a.kinds.now a.counts.now a.arities.now a.at a.t c.at8-what.result c.at8.result c.suits_kind.result c.at8-what.ensures c.at8.ensures c.suits_kind.ensures (Leaf 0) c.if-not-suits_kind.false (is-wild a.bytes.now a.counts.now a.arities.now a.at a.t c.at8-what.result (omega (arith, c.in-1.is)))
+    let b = a.types.now in
+    is-kind b.bytes.now b.kinds.now b.counts.now b.arities.now a.at a.t c.get-what.result c.kind.result c.suits_kind.result c.get-what.ensures c.kind.ensures c.suits_kind.ensures _ c.in-Ok-Variable.field-0 _ c.if-not-suits_kind.false c.in-Ok-Variable.ensures c.in-Ok-Variable.field-0-is refl
 
-pub returns-in-2 : goal.returns-in-2
-returns-in-2 c =
+pub returns-in-Ok-Assign-clause-suits : goal.returns-in-Ok-Assign-clause-suits
+unfolding form_of
+returns-in-Ok-Assign-clause-suits c =
     let a = c.args in
-    is-fit a.bytes.now a.kinds.now a.counts.now a.arities.now a.at a.t c.at8-what.result c.at8.result c.suits_kind.result c.at8-what.ensures c.at8.ensures c.suits_kind.ensures Again c.if-not-suits_kind.false (is-assign a.bytes.now a.counts.now a.arities.now a.at a.t c.at8-what.result c.in-2.is)
+    let b = a.types.now in
+    is-kind b.bytes.now b.kinds.now b.counts.now b.arities.now a.at a.t c.get-what.result c.kind.result c.suits_kind.result c.get-what.ensures c.kind.ensures c.suits_kind.ensures _ c.in-Ok-Assign.field-0 _ c.if-not-suits_kind.false c.in-Ok-Assign.ensures c.in-Ok-Assign.field-0-is refl
 
-pub returns-in-3 : goal.returns-in-3
-returns-in-3 c =
+pub returns-in-Ok-Integer-clause-suits : goal.returns-in-Ok-Integer-clause-suits
+unfolding form_of
+returns-in-Ok-Integer-clause-suits c =
     let a = c.args in
-    is-fit a.bytes.now a.kinds.now a.counts.now a.arities.now a.at a.t c.at8-what.result c.at8.result c.suits_kind.result c.at8-what.ensures c.at8.ensures c.suits_kind.ensures (Leaf c.literal.result) c.if-not-suits_kind.false (is-literal a.bytes.now a.counts.now a.arities.now a.at a.t c.at8-what.result c.literal.result (omega (arith, c.in-3.is)) (omega (arith, c.in-3.is)) c.literal.ensures)
+    let b = a.types.now in
+    is-kind b.bytes.now b.kinds.now b.counts.now b.arities.now a.at a.t c.get-what.result c.kind.result c.suits_kind.result c.get-what.ensures c.kind.ensures c.suits_kind.ensures _ c.in-Ok-Integer.field-0 _ c.if-not-suits_kind.false c.in-Ok-Integer.ensures c.in-Ok-Integer.field-0-is (cc)
 
-pub returns-in-4 : goal.returns-in-4
-returns-in-4 c =
+pub returns-in-Ok-ByteString-clause-suits : goal.returns-in-Ok-ByteString-clause-suits
+unfolding form_of
+returns-in-Ok-ByteString-clause-suits c =
     let a = c.args in
-    is-fit a.bytes.now a.kinds.now a.counts.now a.arities.now a.at a.t c.at8-what.result c.at8.result c.suits_kind.result c.at8-what.ensures c.at8.ensures c.suits_kind.ensures (Leaf c.literal-in-4.result) c.if-not-suits_kind.false (is-literal a.bytes.now a.counts.now a.arities.now a.at a.t c.at8-what.result c.literal-in-4.result (omega (arith, c.in-4.is)) (omega (arith, c.in-4.is)) c.literal-in-4.ensures)
+    let b = a.types.now in
+    is-kind b.bytes.now b.kinds.now b.counts.now b.arities.now a.at a.t c.get-what.result c.kind.result c.suits_kind.result c.get-what.ensures c.kind.ensures c.suits_kind.ensures _ c.in-Ok-ByteString.field-0 _ c.if-not-suits_kind.false c.in-Ok-ByteString.ensures c.in-Ok-ByteString.field-0-is (cc)
 
-pub returns-in_default : goal.returns-in_default
-returns-in_default c =
+pub returns-in-Ok-List-clause-suits : goal.returns-in-Ok-List-clause-suits
+unfolding form_of
+returns-in-Ok-List-clause-suits c =
     let a = c.args in
-    is-fit a.bytes.now a.kinds.now a.counts.now a.arities.now a.at a.t c.at8-what.result c.at8.result c.suits_kind.result c.at8-what.ensures c.at8.ensures c.suits_kind.ensures c.applied.result c.if-not-suits_kind.false c.applied.ensures
+    let b = a.types.now in
+    is-kind b.bytes.now b.kinds.now b.counts.now b.arities.now a.at a.t c.get-what.result c.kind.result c.suits_kind.result c.get-what.ensures c.kind.ensures c.suits_kind.ensures _ c.in-Ok-List.field-0 _ c.if-not-suits_kind.false c.in-Ok-List.ensures c.in-Ok-List.field-0-is (cc)
+
+pub returns-in-Ok-Constructor-clause-suits : goal.returns-in-Ok-Constructor-clause-suits
+unfolding form_of
+returns-in-Ok-Constructor-clause-suits c =
+    let a = c.args in
+    let b = a.types.now in
+    is-kind b.bytes.now b.kinds.now b.counts.now b.arities.now a.at a.t c.get-what.result c.kind.result c.suits_kind.result c.get-what.ensures c.kind.ensures c.suits_kind.ensures _ c.in-Ok-Constructor.field-0 _ c.if-not-suits_kind.false c.in-Ok-Constructor.ensures c.in-Ok-Constructor.field-0-is (cc)
+
+pub returns-in-Ok-Pair-clause-suits : goal.returns-in-Ok-Pair-clause-suits
+unfolding form_of
+returns-in-Ok-Pair-clause-suits c =
+    let a = c.args in
+    let b = a.types.now in
+    is-kind b.bytes.now b.kinds.now b.counts.now b.arities.now a.at a.t c.get-what.result c.kind.result c.suits_kind.result c.get-what.ensures c.kind.ensures c.suits_kind.ensures _ c.in-Ok-Pair.field-0 _ c.if-not-suits_kind.false c.in-Ok-Pair.ensures c.in-Ok-Pair.field-0-is (cc)
+
+pub returns-in-Ok-Tuple-clause-suits : goal.returns-in-Ok-Tuple-clause-suits
+unfolding form_of
+returns-in-Ok-Tuple-clause-suits c =
+    let a = c.args in
+    let b = a.types.now in
+    is-kind b.bytes.now b.kinds.now b.counts.now b.arities.now a.at a.t c.get-what.result c.kind.result c.suits_kind.result c.get-what.ensures c.kind.ensures c.suits_kind.ensures _ c.in-Ok-Tuple.field-0 _ c.if-not-suits_kind.false c.in-Ok-Tuple.ensures c.in-Ok-Tuple.field-0-is (cc)
+
+pub returns-in-Err-clause-suits : goal.returns-in-Err-clause-suits
+unfolding form_of
+returns-in-Err-clause-suits c =
+    let a = c.args in
+    let b = a.types.now in
+    is-other b.bytes.now b.kinds.now b.counts.now b.arities.now a.at a.t c.get-what.result c.kind.result c.suits_kind.result c.get-what.ensures c.kind.ensures c.suits_kind.ensures _ c.if-not-suits_kind.false c.in-Err.ensures (cc)

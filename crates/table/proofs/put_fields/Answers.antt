@@ -1,20 +1,18 @@
 -- `table::put_fields` meets its contract: what is written and what is still to come are the whole run.
 use mathlib.Core.Path.{◌∙◌}
-use Prim.Native.Nat.{◌+◌, ◌-◌}
+use Prim.Native.Nat.{◌+◌}
 use native.Mathlib.Omega.{arith}
 use lib.ListN.{get_or}
-use Rattle.layout.proofs.Loops.{places-on, places-end, run_step, run_end}
+use Rattle.layout.proofs.Loops.{places-step, places-end, run_step, run_end}
 use Rattle.table.proofs.put_fields.Goals as goal
 
 pub loop-k-preserved : goal.loop-k-preserved
 loop-k-preserved c =
     let a = c.args in
-    let l = c.loop-k in
-    let put8 = c.put8-k in
-    (omega (arith, put8.ensures.value), omega (arith, put8.ensures.value), omega (arith, put8.ensures.value), put8.auto.s ∙ l.invariant.3, run_step (λ p. get_or a.bytes.now p 0) l.fields put8.new.s l.k put8.result _ _ _ _ (omega (arith, put8.ensures.value)) (places-on l.p (a.from + a.n - l.k) (a.from + a.n - put8.result) (omega (arith, put8.ensures.value))) c.at8.ensures put8.ensures.s_after ∙ l.invariant.4)
+    let k = c.loop-k.k in
+    run_step (λ p. get_or a.bytes.now p 0) c.loop-k.fields c.put.new.s (a.from + k) (a.from + (k + 1)) _ _ _ _ (omega arith) (places-step a.at k a.n c.loop-k-test.true) c.get.ensures c.put.ensures.s_after ∙ c.loop-k.invariant
 
-pub returns : goal.returns
-returns c =
+pub returns-clause-fields_after : goal.returns-clause-fields_after
+returns-clause-fields_after c =
     let a = c.args in
-    let l = c.loop-k in
-    record { value = omega arith; fields_after = run_end (λ p. get_or a.bytes.now p 0) l.fields l.k _ (places-end l.p l.k (a.from + a.n) (omega arith)) ∙ l.invariant.4 }
+    run_end (λ p. get_or a.bytes.now p 0) c.loop-k.fields (a.from + c.loop-k.k) _ (places-end (a.at + c.loop-k.k) c.loop-k.k a.n (omega arith)) ∙ c.loop-k.invariant

@@ -1,5 +1,5 @@
 -- `table::put_labelled` meets its contract: in both tables what is written and what is still to come are the whole run.
-use mathlib.Core.Path.{refl, ◌∙◌}
+use mathlib.Core.Path.{◌∙◌}
 use Prim.Native.Nat.{◌+◌, ◌-◌}
 use native.Mathlib.Omega.{arith}
 use lib.ListN.{get_or}
@@ -11,13 +11,19 @@ pub loop-k-preserved : goal.loop-k-preserved
 loop-k-preserved c =
     let a = c.args in
     let l = c.loop-k in
-    let put16 = c.put16-k in
-    let after-name = c.after_name-p in
-    let step = labelled_step a.bytes.now l.p after-name.result (a.from + a.n - l.k) (a.from + a.n - put16.result) (omega (arith, put16.ensures.value)) after-name.ensures.value in
-    (omega (arith, put16.ensures.value), omega (arith, put16.ensures.value), omega (arith, put16.ensures.value, after-name.ensures.upper_bound), run_step (λ p. get_or a.bytes.now p 0) l.fields c.put8.new.s l.k put16.result _ _ _ _ (omega (arith, put16.ensures.value)) step c.at8.ensures c.put8.ensures.s_after ∙ l.invariant.3, run_step (λ p. low (p + 1)) l.labels put16.new.s l.k put16.result _ _ _ _ (omega (arith, put16.ensures.value)) step refl put16.ensures.s_after ∙ l.invariant.4)
+    let next = c.after_name-p in
+    let step = labelled_step a.bytes.now l.p next.result (a.n - l.k) (a.n - (l.k + 1)) (omega arith) next.ensures.value in (
+      omega (arith, next.ensures.upper_bound),
+      run_step (λ p. get_or a.bytes.now p 0) l.fields c.put.new.s (a.from + l.k) (a.from + (l.k + 1)) _ _ _ _ (omega arith) step c.get.ensures c.put.ensures.s_after ∙ l.invariant.1,
+      run_step (λ p. low (p + 1)) l.labels c.put-in-loop-k.new.s (a.from + l.k) (a.from + (l.k + 1)) l.p c.low.result _ _ (omega arith) step c.low.ensures c.put-in-loop-k.ensures.s_after ∙ l.invariant.2,
+    )
 
 pub returns : goal.returns
 returns c =
     let a = c.args in
     let l = c.loop-k in
-    record { fields_after = run_end (λ p. get_or a.bytes.now p 0) l.fields l.k _ (labelled-end a.bytes.now l.p (a.from + a.n - l.k) (omega arith)) ∙ l.invariant.3; labels_after = run_end (λ p. low (p + 1)) l.labels l.k _ (labelled-end a.bytes.now l.p (a.from + a.n - l.k) (omega arith)) ∙ l.invariant.4 }
+    let none = labelled-end a.bytes.now l.p (a.n - l.k) (omega arith) in
+    record {
+      fields_after = run_end (λ p. get_or a.bytes.now p 0) l.fields (a.from + l.k) _ none ∙ l.invariant.1;
+      labels_after = run_end (λ p. low (p + 1)) l.labels (a.from + l.k) _ none ∙ l.invariant.2;
+    }

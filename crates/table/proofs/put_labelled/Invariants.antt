@@ -8,7 +8,4 @@ use Rattle.table.specs.Build.{low}
 use Rattle.table.proofs.put_labelled.Given as goal
 
 abbrev pub invariant-loop-k : goal.invariant-loop-k
-invariant-loop-k l = (l.from ≤ l.k) × (l.k ≤ l.end) × (l.p + 257 * l.from ≤ l.at + 257 * l.k) × (sets l.fields l.k (reads l.bytes (labelled l.bytes l.p (l.end - l.k))) ≡ sets l.initial.fields l.from (reads l.bytes (labelled l.bytes l.at l.n))) × (sets l.labels l.k (map (λ q. low (q + 1)) (labelled l.bytes l.p (l.end - l.k))) ≡ sets l.initial.labels l.from (map (λ q. low (q + 1)) (labelled l.bytes l.at l.n)))
-
-abbrev pub decreases-loop-k : goal.decreases-loop-k
-decreases-loop-k l = l.end - l.k
+invariant-loop-k l = (l.p ≤ l.at + 257 * l.k) × (sets l.fields (l.from + l.k) (reads l.bytes (labelled l.bytes l.p (l.n - l.k))) ≡ sets l.initial.fields l.from (reads l.bytes (labelled l.bytes l.at l.n))) × (sets l.labels (l.from + l.k) (map (λ q. low (q + 1)) (labelled l.bytes l.p (l.n - l.k))) ≡ sets l.initial.labels l.from (map (λ q. low (q + 1)) (labelled l.bytes l.at l.n)))

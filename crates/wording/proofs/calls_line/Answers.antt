@@ -7,4 +7,4 @@ use Rattle.wording.proofs.calls_line.Goals as goal
 
 pub returns : goal.returns
 returns c =
-    then-ended (bytes "calls " ++ decimal c.args.first) (bytes " ") (decimal c.args.second) c.numbered-next.ensures.wrote c.ended.ensures.wrote
+    then-ended (bytes "calls " ++ decimal c.args.first) (bytes " ") (decimal c.args.second) c.numbered.ensures.wrote c.ended.ensures.wrote

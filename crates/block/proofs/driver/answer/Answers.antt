@@ -1,18 +1,29 @@
 -- `block::driver::answer` meets its contract: the first fault of reading, else what is answered for the block.
-use mathlib.Core.Path.{refl}
+use mathlib.Core.Path.{refl, sym, subst}
 use lib.ListN.{length}
-use Rattle.reading.specs.Said.{held}
+use Rattle.scope.specs.declared.Answer.{Answer}
+use Rattle.scope.specs.Blocks.{Block, parsed}
+use Rattle.scope.specs.Answer.{outcome, outcome_of}
+use Rattle.fitting.specs.Given.{Given}
+use Rattle.judging.specs.Blocks.{Slices, Holds, Known}
+use Rattle.reading.specs.Said.{held_by}
+use Rattle.reading.proofs.Whole.{blank-sized}
+use Rattle.block.proofs.Held.{handed-lent}
 use Rattle.block.proofs.Outcomes.{known_read, block-given, fault-given}
 use Rattle.block.proofs.driver.answer.Goals as goal
 
-pub judged-requires : goal.judged-requires
-judged-requires c =
-    record { known = known_read c.args.file.now (held c.read-p.new.bytes c.read-p.new.kinds c.read-p.new.counts c.read-p.new.arities c.read-p.new.starts c.read-p.new.names c.read-p.new.fields c.read-p.new.labels c.read-p.new.nodes c.read-p.new.left c.read-p.new.rows) c.read-p.result c.read-p.ensures c.in-Block.subject c.in-Block.clauses c.in-Block.types c.in-Block.is; in_bounds = c.requires }
+pub read-requires : goal.read-requires
+read-requires c =
+    blank-sized c.new-store.ensures
 
-pub returns-in-Faulty : goal.returns-in-Faulty
-returns-in-Faulty c =
-    record { given = fault-given c.args.file.now (held c.read-p.new.bytes c.read-p.new.kinds c.read-p.new.counts c.read-p.new.arities c.read-p.new.starts c.read-p.new.names c.read-p.new.fields c.read-p.new.labels c.read-p.new.nodes c.read-p.new.left c.read-p.new.rows) c.read-p.result c.read-p.ensures c.in-Faulty.number c.in-Faulty.line c.in-Faulty.is (length c.args.scratch.now) c.args.report.now c.args.report.now c.requires refl; scratch_after = c.clear.ensures }
+pub judged-requires-clause-known : goal.judged-requires-clause-known
+judged-requires-clause-known c =
+    subst Known (handed-lent c.read.new.store c.in-Ok.parsed.clauses c.lend.result c.lend-b.result c.lend-b.ensures.types c.lend.ensures.bytes c.lend.ensures.kinds c.lend.ensures.counts c.lend.ensures.arities c.lend.ensures.starts c.lend.ensures.names c.lend.ensures.labels c.lend-b.ensures.nodes c.lend-b.ensures.left) (known_read c.args.file.now (held_by c.read.new.store) c.read.result c.read.ensures c.in-Ok.parsed c.in-Ok.is)
 
-pub returns-in-Block : goal.returns-in-Block
-returns-in-Block c =
-    record { given = block-given c.args.file.now (held c.read-p.new.bytes c.read-p.new.kinds c.read-p.new.counts c.read-p.new.arities c.read-p.new.starts c.read-p.new.names c.read-p.new.fields c.read-p.new.labels c.read-p.new.nodes c.read-p.new.left c.read-p.new.rows) c.read-p.result c.read-p.ensures c.in-Block.subject c.in-Block.clauses c.in-Block.types c.in-Block.is (length c.args.scratch.now) c.args.report.now c.judged.result c.judged.new.report c.requires c.judged.ensures.given; scratch_after = c.judged.ensures.scratch_after }
+pub returns-in-Err-clause-given : goal.returns-in-Err-clause-given
+returns-in-Err-clause-given c =
+    subst (λ (a : Answer). Given (outcome c.args.file.now (length c.args.scratch.now) (length c.args.report.now)) a c.args.report.now c.args.report.now) (sym c.refused.ensures) (fault-given c.args.file.now (held_by c.read.new.store) c.read.result c.read.ensures c.in-Err.fault c.in-Err.is (length c.args.scratch.now) c.args.report.now c.args.report.now c.requires refl)
+
+pub returns-in-Ok-clause-given : goal.returns-in-Ok-clause-given
+returns-in-Ok-clause-given c =
+    block-given c.args.file.now (held_by c.read.new.store) c.read.result c.read.ensures c.in-Ok.parsed c.in-Ok.is (length c.args.scratch.now) c.args.report.now c.judged.result c.judged.new.report c.requires (subst (λ (s : Slices). (b : Block) → Holds s b → Given (outcome_of (length c.args.report.now) (parsed b)) c.judged.result c.args.report.now c.judged.new.report) (sym (handed-lent c.read.new.store c.in-Ok.parsed.clauses c.lend.result c.lend-b.result c.lend-b.ensures.types c.lend.ensures.bytes c.lend.ensures.kinds c.lend.ensures.counts c.lend.ensures.arities c.lend.ensures.starts c.lend.ensures.names c.lend.ensures.labels c.lend-b.ensures.nodes c.lend-b.ensures.left)) c.judged.ensures.given)

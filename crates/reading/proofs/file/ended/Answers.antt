@@ -4,10 +4,10 @@ use mathlib.Core.Bool.{true, false}
 use Rattle.reading.proofs.Whole.{end_is}
 use Rattle.reading.proofs.file.ended.Goals as goal
 
-pub returns-then-closes : goal.returns-then-closes
-returns-then-closes c =
-    end_is c.args.s c.args.k true (sym c.closes.ensures ∙ c.if-closes.true)
+pub returns-then-not-closes : goal.returns-then-not-closes
+returns-then-not-closes c =
+    end_is c.args.s c.args.k false (sym c.closes.ensures ∙ c.if-not-closes.true)
 
 pub returns : goal.returns
 returns c =
-    end_is c.args.s c.args.k false (sym c.closes.ensures ∙ c.if-closes.false)
+    end_is c.args.s c.args.k true (sym c.closes.ensures ∙ c.if-not-closes.false)

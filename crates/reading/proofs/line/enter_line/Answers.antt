@@ -1,60 +1,66 @@
 -- `reading::line::enter_line` meets its contract: the tests, then what the frame of its kind adds.
-use mathlib.Core.Path.{sym, ◌∙◌}
-use native.Mathlib.Omega.{arith}
-use Rattle.reading.specs.declared.line.Step.TheVariants.{On, Refused}
-use Rattle.reading.specs.Enters.{stale, fresh}
-use Rattle.reading.proofs.Stepping.{as_kind, as_refused, few-types, few-fields, type_asks, ctor_asks, use_asks, line_refused, type-line, ctor-line, use_line, end_line}
+use mathlib.Core.Path.{refl, ap, subst, sym}
+use lib.ListN.{drop}
+use Rattle.std.specs.Prelude.{Result}
+use Rattle.scope.specs.Blocks.{framed}
+use Rattle.scope.specs.Numbers.{number_of, frame_byte}
+use Rattle.scope.specs.declared.refusal.Refusal.{Refusal}
+use Rattle.order.specs.declared.State.{State}
+use Rattle.reading.specs.Said.{held_in, said_step, Stepped}
+use Rattle.reading.proofs.Relent.{subject-lent, clause-lent, asks-lent, raised}
+use Rattle.reading.proofs.Stepping.{as_kind, as_refused, type_asks, ctor_asks, clause_asks, line_refused, type-line, ctor-line, subject-line, clause-line, end_line}
 use Rattle.reading.proofs.line.enter_line.Goals as goal
 
-pub returns-in-Refused : goal.returns-in-Refused
-returns-in-Refused c =
-    λ σ w. line_refused w c.last_ctors.result c.last_ctors.ensures c.args.at c.in-Refused.n (as_refused c.args.bytes.now c.args.at c.args.s c.last_ctors.result c.kind_of-k.result c.kind_of-k.ensures c.in-Refused.n c.in-Refused.is)
+pub returns-in_err-kind : goal.returns-in_err-kind
+returns-in_err-kind c =
+    let e = c.in_err-kind.field-0.0 in
+    λ σ w. subst (λ (r : Result State Refusal). Stepped (held_in c.args.bytes.now c.args.t.now c.args.rows.now) (said_step r) (framed σ (drop c.args.at c.args.bytes.now))) (sym (raised c.from_residual.result e c.from_residual.ensures)) (line_refused w c.last_ctors.result c.last_ctors.ensures c.args.at (number_of e) (as_refused c.args.bytes.now c.args.at c.args.s c.last_ctors.result c.kind_of.result c.kind_of.ensures e c.in_err-kind.was))
 
-pub add_type-requires : goal.add_type-requires
-add_type-requires c =
-    let k = as_kind c.args.bytes.now c.args.at c.args.s c.last_ctors.result c.kind_of-k.result c.kind_of-k.ensures c.in-Is.kind c.in-Is.is in
-    let w = c.requires.known.says in
-    record { at_bound = omega (arith, c.requires.at_in_bounds, c.requires.bytes_len_bound); types_bound = type_asks w c.last_ctors.result c.last_ctors.ensures c.args.at c.requires.at_in_bounds c.in-Is.kind k.0 k.1.0 k.1.1 c.in-1.is; fields_bound = few-fields w c.last_ctors.result c.last_ctors.ensures c.args.at }
+pub add_type-requires-clause-types_bound : goal.add_type-requires-clause-types_bound
+add_type-requires-clause-types_bound c =
+    let k = as_kind c.args.bytes.now c.args.at c.args.s c.last_ctors.result c.kind_of.result c.kind_of.ensures c.in_ok-kind.kind c.in_ok-kind.was in
+    type_asks c.requires.known.says c.last_ctors.result c.last_ctors.ensures c.args.at c.requires.at_in_bounds (frame_byte c.in_ok-kind.kind) k.0 k.1.0 k.1.1 (ap frame_byte c.in-TypeFrame.is)
 
-pub returns-in-1 : goal.returns-in-1
-returns-in-1 c =
-    let k = as_kind c.args.bytes.now c.args.at c.args.s c.last_ctors.result c.kind_of-k.result c.kind_of-k.ensures c.in-Is.kind c.in-Is.is in
-    λ σ w. type-line w c.last_ctors.result c.last_ctors.ensures c.args.at c.requires.at_in_bounds c.in-Is.kind k.0 k.1.0 k.1.1 c.requires.bytes_len_bound c.in-1.is c.add_type.result c.add_type.ensures
+pub enter_ctor-requires-clause-types_nonzero : goal.enter_ctor-requires-clause-types_nonzero
+enter_ctor-requires-clause-types_nonzero c =
+    let k = as_kind c.args.bytes.now c.args.at c.args.s c.last_ctors.result c.kind_of.result c.kind_of.ensures c.in_ok-kind.kind c.in_ok-kind.was in
+    (ctor_asks c.requires.known.says c.last_ctors.result c.last_ctors.ensures c.args.at c.requires.at_in_bounds (frame_byte c.in_ok-kind.kind) k.0 k.1.0 k.1.1 (ap frame_byte c.in-ConstructorFrame.is)).0
 
-pub overflow_sub-s : goal.overflow_sub-s
-overflow_sub-s c =
-    let k = as_kind c.args.bytes.now c.args.at c.args.s c.last_ctors.result c.kind_of-k.result c.kind_of-k.ensures c.in-Is.kind c.in-Is.is in
-    omega (arith, (ctor_asks c.requires.known.says c.last_ctors.result c.last_ctors.ensures c.args.at c.requires.at_in_bounds c.in-Is.kind k.0 k.1.0 k.1.1 c.in-2.is).0)
+pub enter_ctor-requires-clause-types_bound_2 : goal.enter_ctor-requires-clause-types_bound_2
+enter_ctor-requires-clause-types_bound_2 c =
+    let k = as_kind c.args.bytes.now c.args.at c.args.s c.last_ctors.result c.kind_of.result c.kind_of.ensures c.in_ok-kind.kind c.in_ok-kind.was in
+    (ctor_asks c.requires.known.says c.last_ctors.result c.last_ctors.ensures c.args.at c.requires.at_in_bounds (frame_byte c.in_ok-kind.kind) k.0 k.1.0 k.1.1 (ap frame_byte c.in-ConstructorFrame.is)).1.1
 
-pub add_ctor-requires : goal.add_ctor-requires
-add_ctor-requires c =
-    let k = as_kind c.args.bytes.now c.args.at c.args.s c.last_ctors.result c.kind_of-k.result c.kind_of-k.ensures c.in-Is.kind c.in-Is.is in
-    let w = c.requires.known.says in
-    let q = ctor_asks w c.last_ctors.result c.last_ctors.ensures c.args.at c.requires.at_in_bounds c.in-Is.kind k.0 k.1.0 k.1.1 c.in-2.is in
-    record { at_bound = omega (arith, c.requires.at_in_bounds, c.requires.bytes_len_bound); types_nonzero = q.0; types_bound = few-types w c.last_ctors.result c.last_ctors.ensures c.args.at; ctors_bound = omega (arith, q.1.0); fields_bound = few-fields w c.last_ctors.result c.last_ctors.ensures c.args.at; types_bound_2 = q.1.1 }
+pub enter_clause-requires : goal.enter_clause-requires
+enter_clause-requires c =
+    let k = as_kind c.args.bytes.now c.args.at c.args.s c.last_ctors.result c.kind_of.result c.kind_of.ensures c.in_ok-kind.kind c.in_ok-kind.was in
+    let l = c.lend-in-ClauseFrame.ensures in
+    asks-lent l.bytes l.fields (clause_asks c.requires.known.says c.last_ctors.result c.last_ctors.ensures c.args.at c.requires.at_in_bounds (frame_byte c.in_ok-kind.kind) k.0 k.1.0 k.1.1 (ap frame_byte c.in-ClauseFrame.is) c.requires.bytes_len_bound c.requires.bytes_len_bound_2)
 
-pub returns-then-is_fresh : goal.returns-then-is_fresh
-returns-then-is_fresh c =
-    let k = as_kind c.args.bytes.now c.args.at c.args.s c.last_ctors.result c.kind_of-k.result c.kind_of-k.ensures c.in-Is.kind c.in-Is.is in
-    λ σ w. ctor-line w c.last_ctors.result c.last_ctors.ensures c.args.at c.requires.at_in_bounds c.in-Is.kind k.0 k.1.0 k.1.1 c.requires.bytes_len_bound c.in-2.is (On c.add_ctor.result) (fresh (sym c.is_fresh.ensures ∙ c.if-is_fresh.true) c.add_ctor.ensures.numbers c.add_ctor.ensures.with_ctor)
+pub returns-in-TypeFrame : goal.returns-in-TypeFrame
+returns-in-TypeFrame c =
+    let k = as_kind c.args.bytes.now c.args.at c.args.s c.last_ctors.result c.kind_of.result c.kind_of.ensures c.in_ok-kind.kind c.in_ok-kind.was in
+    let e = c.add_type.ensures in
+    λ σ w. type-line w c.last_ctors.result c.last_ctors.ensures c.args.at c.requires.at_in_bounds (frame_byte c.in_ok-kind.kind) k.0 k.1.0 k.1.1 c.requires.bytes_len_bound (ap frame_byte c.in-TypeFrame.is) c.add_type.result e.entered e.names_stay e.labels_stay
 
-pub returns-in-2 : goal.returns-in-2
-returns-in-2 c =
-    let k = as_kind c.args.bytes.now c.args.at c.args.s c.last_ctors.result c.kind_of-k.result c.kind_of-k.ensures c.in-Is.kind c.in-Is.is in
-    λ σ w. ctor-line w c.last_ctors.result c.last_ctors.ensures c.args.at c.requires.at_in_bounds c.in-Is.kind k.0 k.1.0 k.1.1 c.requires.bytes_len_bound c.in-2.is (Refused 7) (stale (sym c.is_fresh.ensures ∙ c.if-is_fresh.false))
+pub returns-in-ConstructorFrame : goal.returns-in-ConstructorFrame
+returns-in-ConstructorFrame c =
+    let k = as_kind c.args.bytes.now c.args.at c.args.s c.last_ctors.result c.kind_of.result c.kind_of.ensures c.in_ok-kind.kind c.in_ok-kind.was in
+    λ σ w. ctor-line w c.last_ctors.result c.last_ctors.ensures c.args.at c.requires.at_in_bounds (frame_byte c.in_ok-kind.kind) k.0 k.1.0 k.1.1 c.requires.bytes_len_bound (ap frame_byte c.in-ConstructorFrame.is) c.enter_ctor.result c.enter_ctor.ensures.entered c.enter_ctor.ensures.kinds_stay
 
-pub returns-in-5 : goal.returns-in-5
-returns-in-5 c =
-    let k = as_kind c.args.bytes.now c.args.at c.args.s c.last_ctors.result c.kind_of-k.result c.kind_of-k.ensures c.in-Is.kind c.in-Is.is in
-    λ σ w. end_line w c.last_ctors.result c.last_ctors.ensures c.args.at c.requires.at_in_bounds c.in-Is.kind k.0 k.1.0 k.1.1 c.requires.bytes_len_bound c.in-5.is c.enter_end.result c.enter_end.ensures
+pub returns-in-SubjectFrame : goal.returns-in-SubjectFrame
+returns-in-SubjectFrame c =
+    let k = as_kind c.args.bytes.now c.args.at c.args.s c.last_ctors.result c.kind_of.result c.kind_of.ensures c.in_ok-kind.kind c.in_ok-kind.was in
+    let l = c.lend.ensures in
+    λ σ w. subject-line w c.last_ctors.result c.last_ctors.ensures c.args.at c.requires.at_in_bounds (frame_byte c.in_ok-kind.kind) k.0 k.1.0 k.1.1 c.requires.bytes_len_bound (ap frame_byte c.in-SubjectFrame.is) c.enter_subject.result (subject-lent l.bytes l.kinds l.counts l.arities l.starts l.fields c.enter_subject.ensures)
 
-pub enter_use-requires : goal.enter_use-requires
-enter_use-requires c =
-    let k = as_kind c.args.bytes.now c.args.at c.args.s c.last_ctors.result c.kind_of-k.result c.kind_of-k.ensures c.in-Is.kind c.in-Is.is in
-    let w = c.requires.known.says in
-    record { types_bound = few-types w c.last_ctors.result c.last_ctors.ensures c.args.at; for_clause = use_asks w c.last_ctors.result c.last_ctors.ensures c.args.at c.requires.at_in_bounds c.in-Is.kind k.0 k.1.0 k.1.1 (omega arith) (omega arith) (omega arith) c.requires.bytes_len_bound c.requires.bytes_len_bound_2 }
+pub returns-in-ClauseFrame : goal.returns-in-ClauseFrame
+returns-in-ClauseFrame c =
+    let k = as_kind c.args.bytes.now c.args.at c.args.s c.last_ctors.result c.kind_of.result c.kind_of.ensures c.in_ok-kind.kind c.in_ok-kind.was in
+    let l = c.lend-in-ClauseFrame.ensures in
+    λ σ w. clause-line w c.last_ctors.result c.last_ctors.ensures c.args.at c.requires.at_in_bounds (frame_byte c.in_ok-kind.kind) k.0 k.1.0 k.1.1 c.requires.bytes_len_bound (ap frame_byte c.in-ClauseFrame.is) c.enter_clause.result (clause-lent l.bytes l.kinds l.counts l.arities l.starts l.fields c.enter_clause.ensures)
 
-pub returns-in_default : goal.returns-in_default
-returns-in_default c =
-    let k = as_kind c.args.bytes.now c.args.at c.args.s c.last_ctors.result c.kind_of-k.result c.kind_of-k.ensures c.in-Is.kind c.in-Is.is in
-    λ σ w. use_line w c.last_ctors.result c.last_ctors.ensures c.args.at c.requires.at_in_bounds c.in-Is.kind k.0 k.1.0 k.1.1 c.requires.bytes_len_bound (omega arith) (omega arith) (omega arith) c.enter_use.result c.enter_use.ensures
+pub returns-in-EndFrame : goal.returns-in-EndFrame
+returns-in-EndFrame c =
+    let k = as_kind c.args.bytes.now c.args.at c.args.s c.last_ctors.result c.kind_of.result c.kind_of.ensures c.in_ok-kind.kind c.in_ok-kind.was in
+    λ σ w. end_line w c.last_ctors.result c.last_ctors.ensures c.args.at c.requires.at_in_bounds (frame_byte c.in_ok-kind.kind) k.0 k.1.0 k.1.1 c.requires.bytes_len_bound (ap frame_byte c.in-EndFrame.is) _ (record { phase_is = refl; types_are = refl; ctors_are = refl; fields_are = refl; subject_is = refl; clauses_are = refl; used_is = refl; count_is = refl })

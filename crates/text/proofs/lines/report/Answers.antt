@@ -2,6 +2,5 @@
 use Rattle.text.proofs.Reports.{report_law}
 use Rattle.text.proofs.lines.report.Goals as goal
 
-pub returns : goal.returns
-returns c =
-    report_law c.head-next.ensures.wrote c.gap_lines-rows.ensures.printed c.calls_line.ensures
+pub returns-clause-reported : goal.returns-clause-reported
+returns-clause-reported c = report_law c.head.ensures.wrote c.gap_lines.ensures.printed.1 c.calls_line.ensures

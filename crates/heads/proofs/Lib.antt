@@ -1,0 +1,2 @@
+-- Laws of nodes' numbers.
+pub mod Nodes

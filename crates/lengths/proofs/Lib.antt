@@ -1,2 +1,0 @@
--- What the tests decide.
-pub mod Decisions

@@ -1,2 +1,0 @@
--- Laws of tests over a text.
-pub mod Laws

@@ -1,2 +1,0 @@
--- What the proof of `tell` uses.
-mod Telling

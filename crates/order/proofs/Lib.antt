@@ -1,2 +1,0 @@
--- The tests of a frame's place and of its room.
-pub mod Standing

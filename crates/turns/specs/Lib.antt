@@ -1,2 +1,0 @@
--- What follows a verdict.
-pub mod Turns
