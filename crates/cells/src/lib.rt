@@ -66,6 +66,14 @@ pub fn put_many(s: &mut [u16], from: usize, x: u16, n: usize) -> usize
     from + n
 }
 
+// How long an array is. Of one that stands in a struct a proof knows it by this call alone.
+pub fn size<T, const N: usize>(a: &[T; N]) -> usize
+    ensures value { result ≡ N }
+    ensures long { length a.now ≡ N }
+{
+    a.len()
+}
+
 // Zero everywhere.
 pub fn clear(s: &mut [u16])
     ensures { s.new ≡ replicate (length s.old) 0 }

@@ -50,7 +50,7 @@ either true = omega arith
 either false = omega arith
 
 -- the rows of a leaf
-leaf-spread : (ars path alts : List ℕ) (depth n : ℕ) {out : List ℕ} {written found : ℕ} {v : Result Spelt TooMuch} {e : List ℕ} → Spread out written found (under ars (path_of path alts depth) (spelt ars path alts depth (depth - depth) n ∷ [])) v e → Spread out written found (under ars (path_of path alts depth) (replicate n 0 ∷ [])) v e
+pub leaf-spread : (ars path alts : List ℕ) (depth n : ℕ) {out : List ℕ} {written found : ℕ} {v : Result Spelt TooMuch} {e : List ℕ} → Spread out written found (under ars (path_of path alts depth) (spelt ars path alts depth (depth - depth) n ∷ [])) v e → Spread out written found (under ars (path_of path alts depth) (replicate n 0 ∷ [])) v e
 leaf-spread ars path alts depth n {out} {written} {found} {v} {e} h = subst (λ (x : List ℕ). Spread out written found (under ars (path_of path alts depth) (x ∷ [])) v e) (spelt-none ars path alts n (depth - depth) depth (omega arith)) h
 
 -- the rows of the walks into the constructors key, key + 1, .., more of them, behind the path

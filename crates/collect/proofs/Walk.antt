@@ -13,7 +13,7 @@ use Rattle.scope.specs.Walks.{Walk, plain, holding, joined}
 use Rattle.scope.specs.Blocks.{ok, refuse}
 use Rattle.scope.proofs.Tests.{clash}
 use Rattle.matrix.specs.Numbers.{Rows}
-use Rattle.paths.specs.Spread.{Spread}
+use Rattle.paths.specs.Spread.{Spread, Spelling}
 use Rattle.collect.specs.Ready.{Trail, Sought, sought}
 use Rattle.outcomes.specs.Past.{said_spelt, said_seek, counting}
 use Rattle.outcomes.specs.declared.Spelt.{Spelt}
@@ -70,6 +70,10 @@ module _ {path alts : List ℕ} {depth room written found : ℕ} where
     within = lw;
     few = lk;
   }
+
+  -- all steps of the path are still to be chosen at a leaf
+  pub trail_spelling : Trail path alts depth room written found → (n : ℕ) → n ≤ 16640 → 0 < depth + n → Spelling path alts depth depth n written found
+  trail_spelling t n l z = record { inside = omega arith; long_path = omega (arith, t.deep, t.long_path); long_alts = omega (arith, t.deep, t.long_alts); deep = omega (arith, t.deep); wide = l; low = t.low; some = z; within = t.within; few = t.few }
 
 -- the path with one step more
 abbrev pub step_at : Steps → ℕ → ℕ → ℕ → Steps

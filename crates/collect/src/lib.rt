@@ -131,7 +131,16 @@ pub fn collect_missing_patterns(
             written: at.written,
             rows: at.rows,
         };
-        let r = put_rows(b.types.arities, steps, depth, depth, n, out, before);
+        let r = put_rows(
+            b.types.arities,
+            &mut steps.nodes,
+            &steps.sets,
+            depth,
+            depth,
+            n,
+            out,
+            before,
+        );
         return counted(r, at.calls);
     }
     let called = Seek {

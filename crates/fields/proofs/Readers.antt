@@ -348,3 +348,7 @@ chosen rs bytes at k h e =
 -- past the end nothing is chosen
 pub chosen_none : {A : Type 0} (rs : List (Reader A)) (bytes : List ℕ) (at : ℕ) → length bytes ≤ at → choosing rs (drop at bytes) ≡ fault (drop at bytes)
 chosen_none rs bytes at h = ap (choosing rs) (drop_of_length-le bytes h) ∙ ap fault (sym (drop_of_length-le bytes h))
+
+-- one number more is ruled out
+pub above : {n k : ℕ} → n ≤ k → (k ≡ n → ⊥) → suc n ≤ k
+above h e = omega arith

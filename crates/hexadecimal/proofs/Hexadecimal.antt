@@ -13,6 +13,7 @@ use Rattle.std.specs.Prelude.{Option, Some, None}
 use Rattle.std.specs.List.{position_or_len}
 use Rattle.std.proofs.lemmas.List.Recursion.{is_position_or_len}
 use Rattle.scope.proofs.Tests.{both, clash}
+use Rattle.scope.specs.Limits.{max_digits}
 use Rattle.scope.specs.Lists.{all}
 use Rattle.scope.specs.Lines.{ended, cut, into_first, lines, is_hex, hex, unhex, is_line}
 use Rattle.hexadecimal.specs.Digits.{digits, TakenLine, RefusedLine}
@@ -123,6 +124,25 @@ decode-next ds d at k b h e =
 -- all bytes are written
 pub decode-done : (ds d : List ℕ) (at k : ℕ) → length ds / 2 ≤ k → sets d at (take k (unhex ds)) ≡ sets d at (unhex ds)
 decode-done ds d at k h = ap (sets d at) (take_all k (unhex ds) (omega (arith, length-unhex ds)))
+
+-- refusal 3's tests of the characters between two places: a line feed after them, their number, their digits
+module _ (file : List ℕ) (from end : ℕ) (on : from ≤ end) (inside : end ≤ length file) where
+  abbrev part : List ℕ
+  part = take (end - from) (drop from file)
+
+  are : length part ≡ end - from
+  are = omega (arith, length-take (end - from) (drop from file), length-drop from file)
+
+  pub no_feed : false ≡ ltb end (length file) → false ≡ (ltb end (length file) && is_line (ended part))
+  no_feed h = rw (← h)
+
+  pub no_length : true ≡ ltb end (length file) → false ≡ (ltb 0 (end - from) && eqb ((end - from) % 2) 0 && leb (end - from) max_digits) → false ≡ (ltb end (length file) && is_line (ended part))
+  unfolding is_line
+  no_length h k = rw (← h, are, ← k)
+
+  pub hex-line : true ≡ ltb end (length file) → true ≡ (ltb 0 (end - from) && eqb ((end - from) % 2) 0 && leb (end - from) max_digits) → all is_hex part ≡ (ltb end (length file) && is_line (ended part))
+  unfolding is_line
+  hex-line h k = rw (← h, are, ← k)
 
 -- The line that begins at `from` and whose characters go up to `end`
 module _ (file : List ℕ) (from end : ℕ) (inside : from < length file) (ends : end ≡ from + length (digits (drop from file))) where

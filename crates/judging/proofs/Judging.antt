@@ -5,6 +5,7 @@ use mathlib.Core.List.{List, [], ◌∷◌, append-nil}
 use Prim.Native.Nat.{ℕ, ◌≤◌}
 use native.Mathlib.Omega.{arith}
 use lib.ListN.{length, take, length-take}
+use lib.Seq.{length-take-le}
 use Rattle.std.specs.Prelude.{Ok}
 use Rattle.scope.specs.declared.Answer.{Answer}
 use Rattle.scope.specs.declared.Answer.TheVariants.{Refused}
@@ -46,7 +47,7 @@ module _ {s : Slices} {b : Block} (h : Holds s b) {v out : List ℕ} {w : Walks}
   pub few-written : Walked s.bytes b v out (said_walks (Ok w)) → w.written ≤ 4096
   few-written (done t a r n g f c) = omega (arith, n, (not_too_much (findings b) t).missing_nodes)
 
-  few-gaps : Walked s.bytes b v out (said_walks (Ok w)) → w.gaps ≤ 4096
+  pub few-gaps : Walked s.bytes b v out (said_walks (Ok w)) → w.gaps ≤ 4096
   few-gaps (done t a r n g f c) = omega (arith, g, no_more-rows h.gaps_typed, (not_too_much (findings b) t).missing_nodes)
 
   -- the numbers are small enough
@@ -58,7 +59,7 @@ module _ {s : Slices} {b : Block} (h : Holds s b) {v out : List ℕ} {w : Walks}
     soon = omega arith;
   }
 
-  says : Walked s.bytes b v out (said_walks (Ok w)) → Says (slices s.bytes s.kinds s.arities s.starts s.names s.labels (take w.written out)) (take (length s.rows) v) w.gaps w.first w.second b.table (findings b)
+  pub says : Walked s.bytes b v out (said_walks (Ok w)) → Says (slices s.bytes s.kinds s.arities s.starts s.names s.labels (take w.written out)) (take (length s.rows) v) w.gaps w.first w.second b.table (findings b)
   says (done t a r n g f c) = record {
     tabled = h.tabled (take w.written out);
     verdicts_are = subst (λ (n : ℕ). said (take n v) ≡ (findings b).reached.result) (sym h.holding.rows.many) a;
@@ -79,6 +80,13 @@ module _ {s : Slices} {b : Block} (h : Holds s b) {v out : List ℕ} {w : Walks}
       → ((table : Table) (f : Findings) → Says (slices s.bytes s.kinds s.arities s.starts s.names s.labels (take w.written out)) (take (length s.rows) v) w.gaps w.first w.second table f → Given (fitted room (report table f)) r d e)
       → Given (outcome_of room (parsed b)) r d e
   reported room {r} {d} {e} found g = subst (λ (o : Outcome). Given o r d e) (sym (judged-parsed room b (parsed b) refl (fine found))) (g b.table (findings b) (says found))
+
+-- the parts of the buffers that are printed
+pub part_of_verdicts : (s : Slices) (k : Known s) (v : List ℕ) → length v ≡ 64 → length s.rows ≡ length (take (length s.rows) v)
+part_of_verdicts s k v e = sym (length-take-le (length s.rows) v (omega (arith, k.few)))
+
+pub part_of_out : (s : Slices) (k : Known s) (v out : List ℕ) {w : Walks} → length out ≡ 4096 → Walked s.bytes k.block v out (said_walks (Ok w)) → w.written ≤ length out
+part_of_out s k v out e found = omega (arith, few-written k.holds found)
 
 -- 10
 pub too_much_work : {bytes : List ℕ} {b : Block} {v out : List ℕ} (room : ℕ) {r : Answer} {d : List ℕ} → Walked bytes b v out (refuse 10) → r ≡ Refused 10 0 → Given (outcome_of room (parsed b)) r d d

@@ -67,9 +67,11 @@ pub fn specialize(b: &Block<'_>, n: usize, key: u16, s: &mut [u16], rows: usize)
     requires rows_in_bounds { rows + rows ≤ length s.old }
     ensures { Written s.old rows (steps b.now.types.bytes.now b.now.nodes.now b.now.left.now n key (take rows s.old)) result s.new }
 {
+    // A copy, by which the loop has the slices at hand.
+    let block = *b;
     let mut k = 0;
     for i in 0..rows {
-        if let Some(q) = onward(b, n, key, s[i]) {
+        if let Some(q) = onward(&block, n, key, s[i]) {
             s[rows + k] = q;
             k += 1;
         }

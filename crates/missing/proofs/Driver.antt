@@ -124,11 +124,11 @@ module _ (bytes nodes left counts ars starts : List ℕ) (sz : Sizes nodes ars) 
       says : (out' : List ℕ) → out' ≡ out_after out (missing_rows bytes counts ars nodes starts).result r → Leaves bytes nodes left counts ars starts s s' out out' r
       says out' f = (missing-is, (f, (z ∙ ap (λ (n : ℕ). replicate n 0) (l ∙ same_length_lem), finds_all bytes nodes left counts ars starts sz.low out out' r long missing-is f)))
 
-      done-says : (v : Seek) → r ≡ Ok v → Leaves bytes nodes left counts ars starts s s' out oe r
+      pub done-says : (v : Seek) → r ≡ Ok v → Leaves bytes nodes left counts ars starts s s' out oe r
       unfolding out_after
       done-says v q = says oe (h.text v q ∙ ap (λ (x : Walk Rows). sets out 0 (flatten x.result)) whole ∙ ap (out_after out (missing_rows bytes counts ars nodes starts).result) (sym q))
 
-      over-says : {t : TooMuch} → r ≡ Err t → {out' : List ℕ} → out' ≡ replicate (length oe) 0 → Leaves bytes nodes left counts ars starts s s' out out' r
+      pub over-says : {t : TooMuch} → r ≡ Err t → {out' : List ℕ} → out' ≡ replicate (length oe) 0 → Leaves bytes nodes left counts ars starts s s' out out' r
       unfolding out_after
       over-says q {out'} f = says out' (f ∙ ap (λ (n : ℕ). replicate n 0) h.long_out ∙ ap (out_after out (missing_rows bytes counts ars nodes starts).result) (sym q))
 

@@ -1,8 +1,8 @@
 -- One open pattern: what its cell says, and what each arm of its methods gives by its definition.
-use mathlib.Core.Path.{◌≡◌, refl}
-use mathlib.Core.Bool.{Bool, true, false, cond}
-use mathlib.Core.List.{List}
-use Prim.Native.Nat.{ℕ, ◌+◌, ◌-◌, ◌/◌, ◌%◌, ◌≤◌, ◌<◌}
+use mathlib.Core.Path.{◌≡◌, refl, ap, ap₂, ◌∙◌}
+use mathlib.Core.Bool.{Bool, true, false, cond, ◌&&◌}
+use mathlib.Core.List.{List, [], ◌∷◌}
+use Prim.Native.Nat.{ℕ, suc, ◌+◌, ◌*◌, ◌-◌, ◌/◌, ◌%◌, ◌≤◌, ◌<◌}
 use native.Mathlib.Omega.{arith}
 use lib.ListN.{length, set, replicate, length-replicate}
 use lib.Seq.{sets}
@@ -10,10 +10,33 @@ use lib.Dec.{ltb, leb, eqb}
 use native.Mathlib.Nat.{add-zero}
 use borrow.Author.Tests.{le-leb, lt-leb, lt-ltb, leb-true, leb-false}
 use Rattle.scope.proofs.Tests.{clash}
-use Rattle.nodes.specs.Keys.{key_of}
-use Rattle.nodes.specs.Opens.{opening, what_of, wanted, taken, cell_of, end_of}
+use Rattle.nodes.specs.Keys.{low16, key_of}
+use Rattle.nodes.specs.Opens.{opening, mark_of, what_of, wanted, taken, cell_of, end_of}
 use Rattle.nodes.specs.declared.Open.{Open}
 use Rattle.nodes.specs.declared.What.TheVariants as what
+
+-- cells that are equal
+pub same_open : {a b c x y z : ℕ} → a ≡ x → b ≡ y → c ≡ z → opening a b c ≡ opening x y z
+same_open e f g = rw (e, f, g)
+
+-- three stores, one after another
+pub three-stores : (s s₁ s₂ s₃ : List ℕ) (i j k w m f : ℕ) → j ≡ i + 1 → k ≡ j + 1 → s₁ ≡ set s i w → s₂ ≡ set s₁ j m → s₃ ≡ set s₂ k f → s₃ ≡ sets s i (w ∷ m ∷ f ∷ [])
+three-stores s s₁ s₂ s₃ i j k w m f j_is k_is e₁ e₂ e₃ =
+    let j' : j ≡ suc i = omega arith in
+    let k' : k ≡ suc (suc i) = omega arith in
+    e₃ ∙ ap (λ (l : List ℕ). set l k f) (e₂ ∙ ap (λ (l : List ℕ). set l j m) e₁) ∙ ap₂ (λ (a b : ℕ). set (set (set s i w) a m) b f) j' k'
+
+pub mark-tail : (t r : ℕ) (tail : Bool) → t < 16384 → tail ≡ true → r ≡ low16 (32769 + 2 * t) → r ≡ mark_of t tail
+mark-tail t r tail l e h = rw e (omega arith)
+
+pub mark-end : (t r : ℕ) (tail : Bool) → t < 16384 → tail ≡ false → r ≡ low16 (32768 + 2 * t) → r ≡ mark_of t tail
+mark-end t r tail l e h = rw e (omega arith)
+
+pub no_list : (what : ℕ) → what < 32768 → false ≡ (leb 32768 what && eqb (what % 2) 1)
+no_list what l = rw (lt-leb 32768 what l)
+
+pub some-list : (what : ℕ) → 32768 ≤ what → eqb (what % 2) 1 ≡ (leb 32768 what && eqb (what % 2) 1)
+some-list what l = rw (le-leb 32768 what l)
 
 -- a cell that says a list, and one that says wildcards
 pub what-list : (w t : ℕ) (tail : Bool) → what.List t tail ≡ what_of w → (32768 ≤ w) × (t ≡ (w - 32768) / 2) × (tail ≡ eqb (w % 2) 1)

@@ -41,18 +41,19 @@ fn put_step(arities: &[u8], node: u16, set: u32, out: &mut [u16; 4096], at: usiz
 // The row that the path says as it is chosen now, in front of n wildcards.
 fn put_row(
     arities: &[u8],
-    steps: &Steps,
+    nodes: &[u16; 16384],
+    sets: &[u32; 16384],
     depth: usize,
     n: usize,
     out: &mut [u16; 4096],
     written: usize,
 ) -> usize
     requires { (depth ≤ 16384) × (n ≤ 16640) × (written ≤ 4096) }
-    ensures { Put out.old written (spelt arities.now steps.now.nodes steps.now.sets 0 depth n) result out.new }
+    ensures { Put out.old written (spelt arities.now nodes.now sets.now 0 depth n) result out.new }
 {
     let mut at = written;
     for i in 0..depth {
-        at = put_step(arities, steps.nodes[i], steps.sets[i], out, at);
+        at = put_step(arities, nodes[i], sets[i], out, at);
     }
     put_wilds(out, at, n)
 }
@@ -61,28 +62,29 @@ fn put_row(
 #[cycle(choose_put_rows)]
 pub fn put_rows(
     arities: &[u8],
-    steps: &mut Steps,
+    nodes: &mut [u16; 16384],
+    sets: &[u32; 16384],
     depth: usize,
     k: usize,
     n: usize,
     out: &mut [u16; 4096],
     at: Spelt,
 ) -> Result<Spelt, TooMuch>
-    requires { Spelling steps.old.nodes steps.old.sets depth k n at.written at.rows }
-    ensures spread { Spread out.old at.written at.rows (under arities.now (path_of steps.old.nodes steps.old.sets k) (spelt arities.now steps.old.nodes steps.old.sets k (depth - k) n ∷ [])) result out.new }
-    ensures path_unchanged { steps.new ≡ steps.old }
+    requires { Spelling nodes.old sets.now depth k n at.written at.rows }
+    ensures spread { Spread out.old at.written at.rows (under arities.now (path_of nodes.old sets.now k) (spelt arities.now nodes.old sets.now k (depth - k) n ∷ [])) result out.new }
+    ensures path_unchanged { nodes.new ≡ nodes.old }
 {
     if k == 0 {
-        let end = put_row(arities, steps, depth, n, out, at.written);
+        let end = put_row(arities, nodes, sets, depth, n, out, at.written);
         return fit(end, at.rows);
     }
     let j = k - 1;
-    if steps.sets[j] == 0 {
-        return put_rows(arities, steps, depth, j, n, out, at);
+    if sets[j] == 0 {
+        return put_rows(arities, nodes, sets, depth, j, n, out, at);
     }
-    let b = steps.nodes[j];
-    let r = choose(arities, steps, depth, j, n, out, at);
-    steps.nodes[j] = b;
+    let b = nodes[j];
+    let r = choose(arities, nodes, sets, depth, j, n, out, at);
+    nodes[j] = b;
     r
 }
 
@@ -90,25 +92,25 @@ pub fn put_rows(
 #[cycle(choose_put_rows)]
 fn choose(
     arities: &[u8],
-    steps: &mut Steps,
+    nodes: &mut [u16; 16384],
+    sets: &[u32; 16384],
     depth: usize,
     k: usize,
     n: usize,
     out: &mut [u16; 4096],
     mut at: Spelt,
 ) -> Result<Spelt, TooMuch>
-    requires spelling { Spelling steps.old.nodes steps.old.sets depth k n at.written at.rows }
-    requires k_lt_depth { (k < depth) × (0 < get_or steps.old.sets k 0) × (get_or steps.old.nodes k 0 + 32 < 65536) }
-    ensures spread { Spread out.old at.written at.rows (under arities.now (path_of steps.old.nodes steps.old.sets k) (chosen arities.now (get_or steps.old.sets k 0) (get_or steps.old.nodes k 0) 32 (spelt arities.now steps.old.nodes steps.old.sets (k + 1) (depth - (k + 1)) n))) result out.new }
-    ensures by_index { (x : ℕ) → set steps.new.nodes k x ≡ set steps.old.nodes k x }
-    ensures sets_unchanged { steps.new.sets ≡ steps.old.sets }
+    requires spelling { Spelling nodes.old sets.now depth k n at.written at.rows }
+    requires k_lt_depth { (k < depth) × (0 < get_or sets.now k 0) × (get_or nodes.old k 0 + 32 < 65536) }
+    ensures spread { Spread out.old at.written at.rows (under arities.now (path_of nodes.old sets.now k) (chosen arities.now (get_or sets.now k 0) (get_or nodes.old k 0) 32 (spelt arities.now nodes.old sets.now (k + 1) (depth - (k + 1)) n))) result out.new }
+    ensures by_index { (x : ℕ) → set nodes.new k x ≡ set nodes.old k x }
 {
-    let b = steps.nodes[k];
-    let mut rest = steps.sets[k];
+    let b = nodes[k];
+    let mut rest = sets[k];
     for c in 0..32 {
         if rest % 2 == 1 {
-            steps.nodes[k] = b + c;
-            at = put_rows(arities, steps, depth, k, n, out, at)?;
+            nodes[k] = b + c;
+            at = put_rows(arities, nodes, sets, depth, k, n, out, at)?;
         }
         rest /= 2;
     }

@@ -153,7 +153,7 @@ module _ (bytes kinds counts arities starts fields : List ℕ) (at t depth place
 
   module _ (low : at < 32768) (sound : t < 16384) (short : length fields ≤ 65536) where
     -- what is known of an answer
-    known : (s : Result Suit Unsuited) → s ≡ suit_at bytes at kinds counts arities t → Counted bytes at s (raw_at bytes at)
+    pub known : (s : Result Suit Unsuited) → s ≡ suit_at bytes at kinds counts arities t → Counted bytes at s (raw_at bytes at)
     known s e = subst (λ (x : Result Suit Unsuited). Counted bytes at x (raw_at bytes at)) (sym e) (counted bytes kinds counts arities at t)
 
     meaning : (s : Result Suit Unsuited) → s ≡ suit_at bytes at kinds counts arities t → (table : Table) → Shape kinds counts arities table → t < length table → (meant table bytes t s ≡ opened table t (raw_at bytes at)) × Sound table t s

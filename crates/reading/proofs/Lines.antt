@@ -3,11 +3,11 @@ use mathlib.Core.Path.{◌≡◌, refl, sym, ap, subst, ◌∙◌}
 use mathlib.Core.Bool.{Bool, true, false, cond, ◌&&◌}
 use mathlib.Core.Option.{Option, some}
 use mathlib.Core.List.{List, [], ◌∷◌, ◌++◌}
-use Prim.Native.Nat.{ℕ, suc, ◌+◌, ◌*◌, ◌-◌, ◌%◌, ◌≤◌, ◌<◌}
+use Prim.Native.Nat.{ℕ, suc, ◌+◌, ◌*◌, ◌-◌, ◌%◌, ◌^◌, ◌≤◌, ◌<◌}
 use native.Mathlib.Omega.{arith}
 use native.Mathlib.Numerals.{add-one}
 use lib.ListN.{length, get_or, take, drop, replicate, length-append, take-append-drop, drop_of_length-le}
-use lib.Seq.{sets, length-take-le, get_or-take, drop_at}
+use lib.Seq.{sets, length-sets, length-take-le, get_or-take, drop_at}
 use lib.Dec.{ltb, leb, eqb}
 use Rattle.scope.proofs.Tests.{clash, both}
 use Rattle.meaning.proofs.Parsing.{block-good}
@@ -131,6 +131,10 @@ stopped (goes w) n e = clash (cc)
 stopped (stops m) n e = let i : m ≡ n = cc in ap refuse i
 
 module _ {file : List ℕ} {k i at : ℕ} {s : State} {h : Held} (v : Within file k i at s h) where
+  -- the next line has a number
+  pub next-line : k + 1 < 2 ^ 64
+  next-line = omega (arith, v.numbered, v.inside, v.short)
+
   -- 3
   pub line-bad : {before after : List ℕ} → RefusedLine file i before 3 after → file_of file ≡ faulty 3 k
   line-bad t = v.onward ∙ ap (parse k v.state) t.begins ∙ parse-bad k v.state t.line t.others t.bad
@@ -141,6 +145,9 @@ module _ {file : List ℕ} {k i at : ℕ} {s : State} {h : Held} (v : Within fil
 
     to-fits : to ≤ length before
     to-fits = omega (arith, t.packed, t.inside)
+
+    pub to-after : to ≤ length after
+    to-after = omega (arith, to-fits, ap length t.written, length-sets before at line-bytes)
 
     -- the bytes so far, and the line's
     bytes-are : take to after ≡ h.bytes ++ line-bytes

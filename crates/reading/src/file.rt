@@ -5,6 +5,7 @@ ghost use Rattle.reading.specs.Said.{held_by, Sized};
 ghost use Rattle.reading.specs.Files.{end_of, LinesAs, said_parsed, ReadAs};
 
 use crate::line::enter_line;
+use cells::size;
 use hexadecimal::read_line;
 use layout::tables::Store;
 use order::{State, closes, is_long, start};
@@ -88,11 +89,27 @@ fn read_lines(file: &[u8], store: &mut Store) -> Result<Parsed, Faulty>
     ended(s, k)
 }
 
+// The arrays of a store have their sizes: nothing to do.
+fn sized(store: &Store)
+    ensures { Sized (held_by store.now) }
+{
+    size(&store.tables.kinds);
+    size(&store.tables.counts);
+    size(&store.tables.arities);
+    size(&store.tables.starts);
+    size(&store.tables.names);
+    size(&store.tables.fields);
+    size(&store.tables.labels);
+    size(&store.rows.nodes);
+    size(&store.rows.left);
+    size(&store.rows.starts);
+}
+
 // The block that a file says, in the store, or the refusal and its line, and the store zero.
 pub fn read(file: &[u8], store: &mut Store) -> Result<Parsed, Faulty>
-    requires { Sized (held_by store.old) }
     ensures { ReadAs file.now (held_by store.new) (said_parsed result) }
 {
+    sized(store);
     store.tables.labels = [0; 5120];
     let r = read_lines(file, store);
     if r.is_err() {

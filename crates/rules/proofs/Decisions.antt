@@ -1,7 +1,7 @@
 -- Which bytes suit: from the numbers of the kinds.
 use mathlib.Core.Path.{◌≡◌, refl, sym, ap, ap₂, ◌∙◌}
-use mathlib.Core.Bool.{Bool}
-use Prim.Native.Nat.{ℕ, suc, ◌-◌, ◌≤◌, ◌<◌}
+use mathlib.Core.Bool.{Bool, true}
+use Prim.Native.Nat.{ℕ, zero, suc, ◌-◌, ◌≤◌, ◌<◌}
 use native.Mathlib.Omega.{arith}
 use lib.Dec.{eqb}
 use borrow.Author.Tests.{ne_eqb}
@@ -16,6 +16,48 @@ use Rattle.scope.specs.contracts.kinds.TypeKindPartialEq.TheImpl.{eq-value}
 use Rattle.scope.specs.declared.kinds.PatternKind.{PatternKind}
 use Rattle.scope.specs.Numbers.{type_byte, pattern_byte, SaysType}
 use Rattle.rules.specs.Kinds.{suits_kind}
+
+-- 8: any type
+pub kind-any : (w k : ℕ) → w < 3 → true ≡ suits_kind w k
+unfolding suits_kind
+kind-any zero k h = refl
+kind-any (suc zero) k h = refl
+kind-any (suc (suc zero)) k h = refl
+kind-any (suc (suc (suc w))) k h = absurd (omega arith)
+
+module _ (w k : ℕ) where
+  pub kind-integer : w ≡ 3 → eqb k 0 ≡ suits_kind w k
+  unfolding suits_kind
+  kind-integer e = rw e
+
+  pub kind-bytes : w ≡ 4 → eqb k 1 ≡ suits_kind w k
+  unfolding suits_kind
+  kind-bytes e = rw e
+
+  pub kind-list : w ≡ 5 → eqb k 3 ≡ suits_kind w k
+  unfolding suits_kind
+  kind-list e = rw e
+
+  pub kind_data : w ≡ 6 → eqb k 6 ≡ suits_kind w k
+  unfolding suits_kind
+  kind_data e = rw e
+
+  pub kind-pair : w ≡ 7 → eqb k 5 ≡ suits_kind w k
+  unfolding suits_kind
+  kind-pair e = rw e
+
+-- 8: any other pattern
+pub kind-tuple : (w k : ℕ) → (w ≡ 0 → ⊥) → (w ≡ 1 → ⊥) → (w ≡ 2 → ⊥) → (w ≡ 3 → ⊥) → (w ≡ 4 → ⊥) → (w ≡ 5 → ⊥) → (w ≡ 6 → ⊥) → (w ≡ 7 → ⊥) → eqb k 4 ≡ suits_kind w k
+unfolding suits_kind
+kind-tuple zero k a b c d e f g h = absurd (a refl)
+kind-tuple (suc zero) k a b c d e f g h = absurd (b refl)
+kind-tuple (suc (suc zero)) k a b c d e f g h = absurd (c refl)
+kind-tuple (suc (suc (suc zero))) k a b c d e f g h = absurd (d refl)
+kind-tuple (suc (suc (suc (suc zero)))) k a b c d e f g h = absurd (e refl)
+kind-tuple (suc (suc (suc (suc (suc zero))))) k a b c d e f g h = absurd (f refl)
+kind-tuple (suc (suc (suc (suc (suc (suc zero)))))) k a b c d e f g h = absurd (g refl)
+kind-tuple (suc (suc (suc (suc (suc (suc (suc zero))))))) k a b c d e f g h = absurd (h refl)
+kind-tuple (suc (suc (suc (suc (suc (suc (suc (suc w)))))))) k a b c d e f g h = refl
 
 tag_is : (t : TypeKind) → tag_of the_type t ≡ type_byte t
 tag_is Integer = refl

@@ -1,13 +1,33 @@
--- What is stored in a slice by one call: a part that is copied or filled, a run of fields.
-use mathlib.Core.Path.{◌≡◌, sym, ap, ◌∙◌}
-use mathlib.Core.List.{List, append_assoc}
-use Prim.Native.Nat.{ℕ, ◌+◌, ◌-◌, ◌≤◌}
+-- What is stored in a slice by one call: two stores, a part that is copied or filled, a run of fields.
+use mathlib.Core.Path.{◌≡◌, refl, sym, ap, ◌∙◌}
+use mathlib.Core.List.{List, [], ◌∷◌, append_assoc}
+use Prim.Native.Nat.{ℕ, zero, suc, ◌+◌, ◌-◌, ◌≤◌}
 use native.Mathlib.Omega.{arith}
-use lib.ListN.{length, get_or, take, drop, replicate, length-drop, length-replicate}
+use native.Mathlib.Numerals.{add-one}
+use lib.ListN.{length, get_or, take, drop, set, replicate, length-drop, length-replicate}
 use lib.Seq.{sets, sets-eq, drop-drop, length-take-le}
 use borrow.Rule.Slice.PartMut.{mid_of, put_mid}
 use Rattle.layout.specs.Places.{places, reads}
+use Rattle.table.specs.Build.{built_arities}
 use Rattle.layout.proofs.Loops.{length-places, length-map}
+
+-- two stores, one after another
+pub two : (d d₁ d₂ : List ℕ) (k k' a a' b b' : ℕ) → d₁ ≡ set d k a → a ≡ a' → k' ≡ k + 1 → d₂ ≡ set d₁ k' b → b ≡ b' → d₂ ≡ sets d k (a' ∷ b' ∷ [])
+two d d₁ d₂ k k' a a' b b' p e m q f = rw (q, p, m, e, f, add-one k)
+
+other : {A : Type 0} (d x y z : A) (k : ℕ) → (k ≡ 3 → ⊥) → (k ≡ 4 → ⊥) → (k ≡ 5 → ⊥) → get_or (d ∷ d ∷ d ∷ x ∷ y ∷ z ∷ []) k d ≡ d
+other d x y z zero a b c = refl
+other d x y z (suc zero) a b c = refl
+other d x y z (suc (suc zero)) a b c = refl
+other d x y z (suc (suc (suc zero))) a b c = absurd (a refl)
+other d x y z (suc (suc (suc (suc zero)))) a b c = absurd (b refl)
+other d x y z (suc (suc (suc (suc (suc zero))))) a b c = absurd (c refl)
+other d x y z (suc (suc (suc (suc (suc (suc k)))))) a b c = refl
+
+-- the arities of the built-in constructors, copied
+pub built : reads built_arities (places 0 2) ≡ built_arities
+unfolding places
+built = refl
 
 -- a part of a slice that is written whole
 pub part_stored : (d vs : List ℕ) (k n : ℕ) → n ≡ length vs → k + length vs ≤ length d → put_mid k n d vs ≡ sets d k vs

@@ -66,4 +66,5 @@ pub record Printing (s : Slices) (gaps : ℕ) (before w : Writer) (p i : ℕ) : 
   pub places : p + 256 * (length s.nodes - p) ≤ i + 256 * length s.nodes
   pub texts : w.at ≤ before.at + 2 ^ 36 * i
   pub same : w.out.ghost_name ≡ before.out.ghost_name
+  pub long : length w.out.now ≡ length before.out.now
   pub printed : Printed s (Many i) 0 p before w (gaps_text i)

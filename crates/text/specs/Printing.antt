@@ -91,9 +91,10 @@ pub record Room (nodes p at most width : ℕ) : Type 0 where
   pub places : p + most + 256 * (nodes - p) < 2 ^ 62
   pub texts : at + width + 262144 * (nodes - p) < 2 ^ 62
 
--- how far a function comes, at least and at most, and how much it writes, in the writer's buffer
+-- how far a function comes, at least and at most, and how much it writes, in the writer's buffer, which keeps its length
 pub record Moved (nodes p q : ℕ) (before after : Writer) (least most width : ℕ) : Type 0 where
   pub forward : p + least ≤ q
   pub places : q + 256 * (nodes - q) ≤ p + most + 256 * (nodes - p)
   pub texts : after.at + 262144 * (nodes - q) ≤ before.at + width + 262144 * (nodes - p)
   pub same : after.out.ghost_name ≡ before.out.ghost_name
+  pub long : length after.out.now ≡ length before.out.now

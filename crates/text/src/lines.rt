@@ -45,6 +45,7 @@ fn gap_line(w: &mut Writer<'_>, types: &Types<'_>, nodes: &[u16], p: usize) -> u
     ensures p_bound_2 { result + 256 * (length nodes.now - result) ≤ p + 1 + 256 * (length nodes.now - p) }
     ensures at_bound_2 { w.new.at ≤ w.old.at + 2 ^ 36 }
     ensures same { w.new.out.ghost_name ≡ w.old.out.ghost_name }
+    ensures long { length w.new.out.now ≡ length w.old.out.now }
     ensures printed { Printed (lent types.now nodes.now) (Many 1) p result w.old w.new (λ table row. gap_lines table row) }
 {
     let source = Printer {
@@ -67,6 +68,7 @@ fn gap_lines(w: &mut Writer<'_>, types: &Types<'_>, found: &Findings<'_>)
     requires at_bound { w.old.at < 2 ^ 48 }
     ensures at_bound_2 { w.new.at ≤ w.old.at + 2 ^ 36 * found.now.gaps }
     ensures same { w.new.out.ghost_name ≡ w.old.out.ghost_name }
+    ensures long { length w.new.out.now ≡ length w.old.out.now }
     ensures printed { (q : ℕ) × Printed (lent types.now found.now.nodes.now) (Many found.now.gaps) 0 q w.old w.new (gaps_text found.now.gaps) }
 {
     let mut p = 0;
@@ -79,6 +81,7 @@ fn gap_lines(w: &mut Writer<'_>, types: &Types<'_>, found: &Findings<'_>)
 pub fn report(w: &mut Writer<'_>, types: &Types<'_>, found: &Findings<'_>)
     requires { Small (length found.now.nodes.now) (length found.now.verdicts.now) found.now.gaps w.old.at }
     ensures same { w.new.out.ghost_name ≡ w.old.out.ghost_name }
+    ensures long { length w.new.out.now ≡ length w.old.out.now }
     ensures reported { (table : Table) (f : Found) → Tells types.now found.now table f → Writes w.old w.new (report_text table f) }
 {
     head(w, found.verdicts, found.gaps);

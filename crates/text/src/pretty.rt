@@ -54,6 +54,9 @@ impl Printer<'_> {
         ensures moved { Moved (length self.now.nodes.now) p result w.old w.new 1 1 1022 }
         ensures printed { Printed (held self.now) (Many 1) p result w.old w.new (item_text (mode_of self.now.paste) (held self.now) labelled i) }
     {
+        if !labelled {
+            return self.pretty(w, p);
+        }
         let node = self.node(p);
         put_mark(w, labelled, &self.types, i, node);
         if is_bare(labelled, node) {
@@ -122,8 +125,9 @@ impl Printer<'_> {
         self.enclosed(w, has_labels(&self.types, i), p, self.start(i), n)
     }
 
-    // A constructor by itself, whose arguments stand from p on.
+    // A constructor by itself, whose arguments stand from p on. Never inlined: so a wildcard among its arguments costs no call.
     #[cycle(printer)]
+    #[inline(never)]
     fn ctor(&self, w: &mut Writer<'_>, p: usize, i: usize) -> usize
         requires room { Room (length self.now.nodes.now) p w.old.at 255 262144 }
         requires i_bound { i < 32767 }

@@ -6,7 +6,7 @@ use native.Mathlib.Nat.{add-zero}
 use native.Mathlib.Omega.{arith}
 use native.Mathlib.Numerals.{add-one}
 use lib.ListN.{length, length-append, get_or, take}
-use lib.Seq.{sets, take-suc}
+use lib.Seq.{sets, take-suc, length-sets}
 use Rattle.scope.specs.Lists.{Text}
 use Rattle.cells.proofs.Laws.{sets-sets}
 use Rattle.writing.specs.declared.Writer.{Writer}
@@ -34,6 +34,10 @@ writes_more h k = record { same = k.same ∙ h.same; wrote = wrote_more h.wrote 
 
 pub writes_as : {a b : Writer} {t u : Text} → t ≡ u → Writes a b t → Writes a b u
 writes_as e h = record { same = h.same; wrote = wrote_as e h.wrote }
+
+-- the buffer keeps its length
+pub writes_long : {a b : Writer} {t : Text} → Writes a b t → length b.out.now ≡ length a.out.now
+writes_long {a} {b} {t} h = ap (λ (s : List ℕ). length s) h.wrote.holds ∙ length-sets a.out.now a.at t
 
 -- the next byte of a text, after those before it
 pub writes_next : {a b c : Writer} (s : Text) (i : ℕ) {x : ℕ} → x ≡ get_or s i 0 → i < length s → Writes a b (take i s) → Writes b c (x ∷ []) → Writes a c (take (i + 1) s)

@@ -4,6 +4,7 @@ use Rattle.collect.proofs.Calls.{into-falls, into-opened, into-sought, walked-en
 use Rattle.outcomes.proofs.Tests.{entered}
 use native.Mathlib.Omega.{arith}
 use lib.ListN.{take}
+use mathlib.Core.Path.{ap}
 use Prim.Native.Nat.{◌+◌, ◌*◌, ◌<◌}
 use Rattle.collect.proofs.+aside_collect_missing_patterns_each_into.Goals as goal
 
@@ -27,7 +28,7 @@ collect_missing_patterns-returns-then-rows-eq0 t c =
     let h = c.requires in
     let low = c.low.ensures in
     let g = (entered a.at.calls (a.rows * a.n) a.room c.over.result c.over.ensures c.if-over.false) in
-    is_leaf b low h.opened h.trail a.out.now g.fits g.few c.if-rows-eq0.true c.put_rows-r.ensures.spread c.put_rows-r.ensures.path_unchanged c.counted.ensures
+    is_leaf b low h.opened h.trail a.out.now g.fits g.few c.if-rows-eq0.true c.put_rows-r.ensures.spread (ap (λ x. record a.steps.now { nodes = x }) c.put_rows-r.ensures.path_unchanged) c.counted.ensures
 
 pub collect_missing_patterns-overflow_add-called : goal.collect_missing_patterns-overflow_add-called
 collect_missing_patterns-overflow_add-called t c =

@@ -3,7 +3,6 @@ use Rattle.paths.proofs.PathChoose.{rows_fit, rows_on, rows-chosen, chosen-end, 
 use native.Mathlib.Omega.{arith}
 use lib.ListN.{set}
 use lib.Seq.{set-set}
-use Rattle.paths.specs.declared.Steps.{Steps}
 use mathlib.Core.Path.{refl, ap, ◌∙◌}
 use Rattle.paths.proofs.+choose_put_rows.Goals as goal
 use Rattle.paths.proofs.+choose_put_rows.Goals.{choose-then-rest-eq1+in_ok-at, choose-else-rest-eq1}
@@ -16,15 +15,15 @@ choose-returns-in_err-at-clause-spread t c =
 pub choose-returns-in_err-at-clause-by_index : goal.choose-returns-in_err-at-clause-by_index
 choose-returns-in_err-at-clause-by_index t c =
     let p = c.loop-c in
-    λ x. ap (λ (s : Steps). set s.nodes c.args.k x) c.put_rows.ensures.path_unchanged ∙ set-set p.steps.nodes c.args.k _ x ∙ p.invariant.kept x
+    λ x. ap (λ s. set s c.args.k x) c.put_rows.ensures.path_unchanged ∙ set-set p.nodes c.args.k _ x ∙ p.invariant.kept x
 
 pub choose-loop-c-preserved : goal.choose-loop-c-preserved
 choose-loop-c-preserved t c =
     let h = c.requires in
     let p = c.loop-c in
     elim c.if-rest-eq1.branch [
-      | choose-then-rest-eq1+in_ok-at w ↦ rw (w.steps-is, w.out-is, w.at-is) (chosen-more c.args.arities.now h.spelling h.k_lt_depth.0 h.k_lt_depth.1 p.invariant c.loop-c-test.true refl (λ z. omega (arith, w.if-rest-eq1.true)) w.put_rows.ensures.spread w.in_ok-at.was (ap (λ (s : Steps). s.nodes) w.put_rows.ensures.path_unchanged) (ap (λ (s : Steps). s.sets) w.put_rows.ensures.path_unchanged))
-      | choose-else-rest-eq1 w ↦ rw (w.steps-is, w.out-is, w.at-is) (chosen-skip c.args.arities.now h.spelling h.k_lt_depth.0 h.k_lt_depth.1 p.invariant c.loop-c-test.true (omega (arith, w.if-rest-eq1.false)))
+      | choose-then-rest-eq1+in_ok-at w ↦ rw (w.nodes-is, w.out-is, w.at-is) (chosen-more c.args.arities.now h.spelling h.k_lt_depth.0 h.k_lt_depth.1 p.invariant c.loop-c-test.true refl (λ z. omega (arith, w.if-rest-eq1.true)) w.put_rows.ensures.spread w.in_ok-at.was w.put_rows.ensures.path_unchanged)
+      | choose-else-rest-eq1 w ↦ rw (w.nodes-is, w.out-is, w.at-is) (chosen-skip c.args.arities.now h.spelling h.k_lt_depth.0 h.k_lt_depth.1 p.invariant c.loop-c-test.true (omega (arith, w.if-rest-eq1.false)))
     ]
 
 pub choose-returns-clause-spread : goal.choose-returns-clause-spread
@@ -36,10 +35,10 @@ pub put_rows-returns-then-k-eq0-clause-spread : goal.put_rows-returns-then-k-eq0
 put_rows-returns-then-k-eq0-clause-spread t c =
     rows_fit c.args.arities.now c.requires c.if-k-eq0.true c.put_row-end.ensures c.fit.ensures
 
-pub put_rows-returns-then-steps-j-eq0-clause-spread : goal.put_rows-returns-then-steps-j-eq0-clause-spread
-put_rows-returns-then-steps-j-eq0-clause-spread t c =
-    rows_on c.args.arities.now c.requires (omega (arith, c.if-k-eq0.false)) c.if-steps-j-eq0.true c.put_rows.ensures.spread
+pub put_rows-returns-then-sets-j-eq0-clause-spread : goal.put_rows-returns-then-sets-j-eq0-clause-spread
+put_rows-returns-then-sets-j-eq0-clause-spread t c =
+    rows_on c.args.arities.now c.requires (omega (arith, c.if-k-eq0.false)) c.if-sets-j-eq0.true c.put_rows.ensures.spread
 
 pub put_rows-returns-clause-spread : goal.put_rows-returns-clause-spread
 put_rows-returns-clause-spread t c =
-    rows-chosen c.args.arities.now c.requires (omega (arith, c.if-k-eq0.false)) c.if-steps-j-eq0.false c.choose-r.ensures.spread
+    rows-chosen c.args.arities.now c.requires (omega (arith, c.if-k-eq0.false)) c.if-sets-j-eq0.false c.choose-r.ensures.spread

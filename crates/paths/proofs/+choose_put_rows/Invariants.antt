@@ -10,4 +10,4 @@ abbrev pub decreases-put_rows : goal.decreases-put_rows
 decreases-put_rows l = 2 * l.k
 
 abbrev pub invariant-choose-loop-c : goal.invariant-choose-loop-c
-invariant-choose-loop-c l = Chosen l.arities l.initial.steps.nodes l.initial.steps.sets l.depth l.k l.n l.initial.at.written l.initial.at.rows l.initial.out l.steps.nodes l.steps.sets l.rest l.b l.c l.at l.out
+invariant-choose-loop-c l = Chosen l.arities l.initial.nodes l.sets l.depth l.k l.n l.initial.at.written l.initial.at.rows l.initial.out l.nodes l.rest l.b l.c l.at l.out

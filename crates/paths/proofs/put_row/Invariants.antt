@@ -7,5 +7,5 @@ use mathlib.Core.Path.{◌≡◌}
 use Rattle.paths.proofs.put_row.Given as goal
 
 abbrev pub invariant-loop-i : goal.invariant-loop-i
-invariant-loop-i l = (sets l.out l.at (spelt l.arities l.steps.nodes l.steps.sets l.i (l.depth - l.i) l.n) ≡ sets l.initial.out l.written (spelt l.arities l.steps.nodes l.steps.sets 0 l.depth l.n))
-    × (l.at + length (spelt l.arities l.steps.nodes l.steps.sets l.i (l.depth - l.i) l.n) ≡ l.written + length (spelt l.arities l.steps.nodes l.steps.sets 0 l.depth l.n))
+invariant-loop-i l = (sets l.out l.at (spelt l.arities l.nodes l.sets l.i (l.depth - l.i) l.n) ≡ sets l.initial.out l.written (spelt l.arities l.nodes l.sets 0 l.depth l.n))
+    × (l.at + length (spelt l.arities l.nodes l.sets l.i (l.depth - l.i) l.n) ≡ l.written + length (spelt l.arities l.nodes l.sets 0 l.depth l.n))

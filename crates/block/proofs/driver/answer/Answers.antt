@@ -7,14 +7,9 @@ use Rattle.scope.specs.Answer.{outcome, outcome_of}
 use Rattle.fitting.specs.Given.{Given}
 use Rattle.judging.specs.Blocks.{Slices, Holds, Known}
 use Rattle.reading.specs.Said.{held_by}
-use Rattle.reading.proofs.Whole.{blank-sized}
 use Rattle.block.proofs.Held.{handed-lent}
 use Rattle.block.proofs.Outcomes.{known_read, block-given, fault-given}
 use Rattle.block.proofs.driver.answer.Goals as goal
-
-pub read-requires : goal.read-requires
-read-requires c =
-    blank-sized c.new-store.ensures
 
 pub judged-requires-clause-known : goal.judged-requires-clause-known
 judged-requires-clause-known c =
