@@ -15,18 +15,17 @@ pub fn head(b: &Block<'_>, p: usize, n: usize) -> u16
     if b.left(p) < n { 0 } else { b.node(p) }
 }
 
-// The first constructor of a column: each row's head is looked for among the constructors of its type.
+// The first constructor of a column: each row's head is looked for among the constructors of its type. Inlined: so it knows what its caller knows of the block.
+#[inline(always)]
 pub fn first(b: &Block<'_>, ps: &[u16], n: usize) -> Option<u16>
     requires { Few b.now.types.counts.now (map (head_at b.now.nodes.now b.now.left.now n) ps.now) }
     ensures { let hs = map (head_at b.now.nodes.now b.now.left.now n) ps.now in MatchOption result (first_of hs ≡ 0) (λ h. (h ≡ first_of hs) × (0 < h)) }
 {
-    // A copy, by which the loop has the slices at hand.
-    let block = *b;
     let mut found = None;
     'search: for &p in ps {
-        if let Node::Constructor(h) = Node::from(head(&block, usize::from(p), n)) {
+        if let Node::Constructor(h) = Node::from(head(b, usize::from(p), n)) {
             let from = base(h);
-            for c in 0..count(&block.types, from) {
+            for c in 0..count(&b.types, from) {
                 if usize::from(from) + c == usize::from(h) {
                     found = Some(h);
                     break 'search;
@@ -45,15 +44,14 @@ pub fn count(types: &Types<'_>, from: u16) -> usize
     types.count((usize::from(from) - 1) / 32)
 }
 
-// Which of the constructors from `from` on a column has.
+// Which of the constructors from `from` on a column has. Inlined: so it knows what its caller knows of the block.
+#[inline(always)]
 pub fn seen(b: &Block<'_>, ps: &[u16], n: usize, from: u16) -> [bool; 32]
     ensures { (c : ℕ) → c < 32 → get_or result c false ≡ mem (from + c) (map (head_at b.now.nodes.now b.now.left.now n) ps.now) }
 {
-    // A copy, by which the loop has the slices at hand.
-    let block = *b;
     let mut flags = [false; 32];
     for &p in ps {
-        let h = head(&block, usize::from(p), n);
+        let h = head(b, usize::from(p), n);
         if from <= h && h - from < 32 {
             flags[usize::from(h - from)] = true;
         }

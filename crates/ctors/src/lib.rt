@@ -28,8 +28,9 @@ fn unseen(flags: [bool; 32], k: usize) -> u32
     set
 }
 
-// What is seen in a column: all constructors of its type; or the step of the path that is left to take.
-pub fn collect_ctors(b: &Block<'_>, ps: &[u16], n: usize) -> Ctors
+// What `collect_ctors` does, inlined where the block is known to be level and where it isn't.
+#[inline(always)]
+fn collect_ctors_in(b: &Block<'_>, ps: &[u16], n: usize) -> Ctors
     requires { Few b.now.types.counts.now (map (head_at b.now.nodes.now b.now.left.now n) ps.now) }
     ensures { let hs = map (head_at b.now.nodes.now b.now.left.now n) ps.now in result ≡ ctors_of b.now.types.counts.now hs (seen_of b.now.types.counts.now hs) }
 {
@@ -44,4 +45,15 @@ pub fn collect_ctors(b: &Block<'_>, ps: &[u16], n: usize) -> Ctors
     }
     let set = unseen(flags, k);
     Ctors::Open { node: c, set }
+}
+
+// What is seen in a column: all constructors of its type; or the step of the path that is left to take.
+pub fn collect_ctors(b: &Block<'_>, ps: &[u16], n: usize) -> Ctors
+    requires { Few b.now.types.counts.now (map (head_at b.now.nodes.now b.now.left.now n) ps.now) }
+    ensures { let hs = map (head_at b.now.nodes.now b.now.left.now n) ps.now in result ≡ ctors_of b.now.types.counts.now hs (seen_of b.now.types.counts.now hs) }
+{
+    match b.level() {
+        Some(level) => collect_ctors_in(&level, ps, n),
+        None => collect_ctors_in(b, ps, n),
+    }
 }

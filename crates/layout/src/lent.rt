@@ -1,6 +1,6 @@
 // The type table and the simplified patterns as lent slices, in one value each: what every reader of them takes.
 
-ghost use Rattle.std.specs.Prelude.{◌≡◌, get_or};
+ghost use Rattle.std.specs.Prelude.{◌≡◌, length, get_or, MatchOption};
 
 use cells::get;
 
@@ -76,7 +76,19 @@ pub struct Block<'a> {
     pub left: &'a [u16],
 }
 
-impl Block<'_> {
+impl<'a> Block<'a> {
+    // The same block where it is level: nodes and `left` are equally long, and cut at one length, so that one test does for a place in both.
+    #[inline(always)]
+    pub fn level(&self) -> Option<Block<'a>>
+        ensures { MatchOption result (length self.now.nodes.now ≡ length self.now.left.now → ⊥) (λ b. (length self.now.nodes.now ≡ length self.now.left.now) × (b.types ≡ self.now.types) × (b.nodes.now ≡ self.now.nodes.now) × (b.left.now ≡ self.now.left.now)) }
+    {
+        if self.nodes.len() == self.left.len() {
+            let nodes = &self.nodes[..self.left.len()];
+            return Some(Block { nodes, ..*self });
+        }
+        None
+    }
+
     // The node at p.
     pub fn node(&self, p: usize) -> u16
         ensures { result ≡ get_or self.now.nodes.now p 0 }

@@ -26,7 +26,8 @@ pub fn arity(arities: &[u8], node: u16) -> usize
     usize::from(get(arities, usize::from(node) - 1))
 }
 
-// Whether two literals, at their places among the bytes, are equal: kind, length and bytes, one after another.
+// Whether two literals, at their places among the bytes, are equal: kind, length and bytes, one after another. Never inlined: so the loop over rows keeps its registers.
+#[inline(never)]
 fn same_literal(bytes: &[u8], a: usize, b: usize) -> bool
     requires { (a < 65536) × (b < 65536) }
     ensures { result ≡ same_lit bytes.now a b }
@@ -61,22 +62,34 @@ fn onward(b: &Block<'_>, n: usize, key: u16, p: u16) -> Option<u16>
     None
 }
 
-// The rows s[0..rows] specialised by key, written from s[rows] on; how many they are.
-pub fn specialize(b: &Block<'_>, n: usize, key: u16, s: &mut [u16], rows: usize) -> usize
+// What `specialize` does, inlined where the block is known to be level and where it isn't.
+#[inline(always)]
+fn specialize_in(b: &Block<'_>, n: usize, key: u16, s: &mut [u16], rows: usize) -> usize
     requires steady { Steady b.now.left.now n (take rows s.old) }
     requires rows_in_bounds { rows + rows ≤ length s.old }
     ensures { Written s.old rows (steps b.now.types.bytes.now b.now.nodes.now b.now.left.now n key (take rows s.old)) result s.new }
 {
-    // A copy, by which the loop has the slices at hand.
-    let block = *b;
     let mut k = 0;
     for i in 0..rows {
-        if let Some(q) = onward(&block, n, key, s[i]) {
+        if let Some(q) = onward(b, n, key, s[i]) {
             s[rows + k] = q;
             k += 1;
         }
     }
     k
+}
+
+// The rows s[0..rows] specialised by key, written from s[rows] on; how many they are. Never inlined: so its loop has the registers.
+#[inline(never)]
+pub fn specialize(b: &Block<'_>, n: usize, key: u16, s: &mut [u16], rows: usize) -> usize
+    requires steady { Steady b.now.left.now n (take rows s.old) }
+    requires rows_in_bounds { rows + rows ≤ length s.old }
+    ensures { Written s.old rows (steps b.now.types.bytes.now b.now.nodes.now b.now.left.now n key (take rows s.old)) result s.new }
+{
+    match b.level() {
+        Some(level) => specialize_in(&level, n, key, s, rows),
+        None => specialize_in(b, n, key, s, rows),
+    }
 }
 
 // The first k places, copied to the front of the scratch.

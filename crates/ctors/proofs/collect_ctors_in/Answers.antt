@@ -1,10 +1,10 @@
--- `ctors::collect_ctors` meets its contract: no constructor, all, or some.
+-- `ctors::collect_ctors_in` meets its contract: no constructor, all, or some.
 use Rattle.ctors.proofs.Found.{ctors-none, ctors-all, ctors-some}
 use Rattle.matrix.proofs.Seen.{first-few}
 use Rattle.matrix.specs.Places.{head_at}
 use native.Mathlib.Omega.{arith}
 use mathlib.Core.List.{map}
-use Rattle.ctors.proofs.collect_ctors.Goals as goal
+use Rattle.ctors.proofs.collect_ctors_in.Goals as goal
 
 pub returns-in_default : goal.returns-in_default
 returns-in_default c =

@@ -1,4 +1,4 @@
--- `matrix::specialize` meets its contract: the steps of the first i rows are written.
+-- `matrix::specialize_in` meets its contract: the steps of the first i rows are written.
 use Rattle.matrix.proofs.Steps.{written_none, written_read, turn_at, turn-gone}
 use Rattle.matrix.specs.Places.{steps, place_of}
 use lib.Seq.{length-take-le}
@@ -6,8 +6,8 @@ use lib.ListN.{length, get_or, take}
 use native.Mathlib.Omega.{arith}
 use Prim.Native.Nat.{ℕ, ◌+◌, ◌≤◌, ◌<◌}
 use mathlib.Core.Path.{◌≡◌, sym, ap, subst, ◌∙◌}
-use Rattle.matrix.proofs.specialize.Goals as goal
-use Rattle.matrix.proofs.specialize.Goals.{in-Some, in_default}
+use Rattle.matrix.proofs.specialize_in.Goals as goal
+use Rattle.matrix.proofs.specialize_in.Goals.{in-Some, in_default}
 
 pub loop-i-init : goal.loop-i-init
 unfolding steps
