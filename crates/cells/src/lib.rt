@@ -66,7 +66,7 @@ pub fn put_many(s: &mut [u16], from: usize, x: u16, n: usize) -> usize
     from + n
 }
 
-// How long an array is. Of one that stands in a struct a proof knows it by this call alone.
+// How long an array is. Of one that stands in a struct a proof knows it once a step has borrowed or read the array.
 pub fn size<T, const N: usize>(a: &[T; N]) -> usize
     ensures value { result ≡ N }
     ensures long { length a.now ≡ N }

@@ -77,7 +77,7 @@ pub struct Block<'a> {
 }
 
 impl<'a> Block<'a> {
-    // The same block where it is level: nodes and `left` are equally long, and cut at one length, so that one test does for a place in both.
+    // The same block where it is level: nodes and `left` are equally long, and nodes cut at that length, so that one test does for a place in both.
     #[inline(always)]
     pub fn level(&self) -> Option<Block<'a>>
         ensures { MatchOption result (length self.now.nodes.now ≡ length self.now.left.now → ⊥) (λ b. (length self.now.nodes.now ≡ length self.now.left.now) × (b.types ≡ self.now.types) × (b.nodes.now ≡ self.now.nodes.now) × (b.left.now ≡ self.now.left.now)) }
